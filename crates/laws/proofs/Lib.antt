@@ -1,0 +1,6 @@
+pub mod Choice
+pub mod Loops
+pub mod Writing
+pub mod Fill
+pub mod Finite
+pub mod Order

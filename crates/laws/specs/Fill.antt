@@ -1,0 +1,19 @@
+-- Arrays that a loop fills from the front, with a count, and lists of indexes. Definitions only.
+use Prim.Native.Nat.{ℕ, zero, suc, _-_}
+use mathlib.Core.Path.{_≡_}
+use mathlib.Core.List.{List, [], _∷_, _++_}
+use lib.ListN.{length, take}
+
+-- An array of `cap` places holds the first `n` elements of `all`; `rest` is to come.
+pub record Filling {A : Type 0} (cap : ℕ) (all : List A) (arr : List A) (n : ℕ) (rest : List A) : Type 0 where
+  pub long : length arr ≡ cap
+  pub held : take n arr ++ rest ≡ all
+
+-- k indexes from a on
+unfoldable pub indexes : ℕ → ℕ → List ℕ
+indexes zero a = []
+indexes (suc k) a = a ∷ indexes k (suc a)
+
+-- a, a + 1, .., e - 1: Rust's a..e
+abbrev pub range : ℕ → ℕ → List ℕ
+range a e = indexes (e - a) a

@@ -1,0 +1,1 @@
+// Definitions and laws that the other crates share: specs/ and proofs/. No code.
