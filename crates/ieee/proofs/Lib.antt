@@ -1,0 +1,12 @@
+pub mod Values
+pub mod Isqrt
+pub mod Halves
+pub mod Closest
+pub mod Rooted
+pub mod Units
+pub mod Patterns
+pub mod Steps
+pub mod Result
+pub mod Exists
+pub mod Nearest
+pub mod Monotone
