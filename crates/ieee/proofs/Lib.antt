@@ -8,5 +8,7 @@ pub mod Patterns
 pub mod Steps
 pub mod Result
 pub mod Exists
-pub mod Nearest
+pub mod RootLaws
 pub mod Monotone
+pub mod TotalOrder
+pub mod Worked

@@ -11,7 +11,7 @@ use lib.Ieee.Fits.{up-pos, down-pos}
 use lib.Ieee.Positive.{positive, above-of-le}
 use borrow.Author.Tests.{le-ltb, lt-ltb, ne-eqb}
 use Rattle.ieee.specs.Root.{rootOf, Nearest}
-use Rattle.ieee.proofs.Nearest.{root-nearest, root-mono}
+use Rattle.ieee.proofs.RootLaws.{root-nearest, root-mono}
 
 is-false : (s : Bool) (A B : ℕ) → A ≡ 0 → 0 < B → (below s A true B || level s A true B) ≡ false
 is-false true A B a b = rw (le-ltb B A (omega arith), ne-eqb A B (omega arith))

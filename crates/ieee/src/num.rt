@@ -4,7 +4,6 @@ ghost use mathlib.Core.Bool.{cond};
 ghost use lib.Ieee.{isNan};
 ghost use Rattle.ieee.specs.Consts.{infinity};
 ghost use Rattle.ieee.specs.Num.{finite, absOf, maxOf, minOf, clampOf, sameOf};
-
 use crate::bits::pattern;
 
 pub fn choose(t: bool, a: f64, b: f64) -> f64

@@ -2,7 +2,6 @@
 ghost use mathlib.Core.Path.{_≡_};
 ghost use mathlib.Core.Bool.{true, false};
 ghost use Rattle.ieee.specs.TotalOrder.{isZero, totalOrder, orderingOf, totalOf};
-
 use crate::num::is_nan;
 
 pub enum Ordering {
@@ -34,7 +33,11 @@ fn answer(no_later: bool, no_sooner: bool) -> Ordering
     ensures { λ r. ⌜ r ≡ orderingOf «no_later» «no_sooner» ⌝ }
 {
     if no_later {
-        if no_sooner { Ordering::Equal } else { Ordering::Less }
+        if no_sooner {
+            Ordering::Equal
+        } else {
+            Ordering::Less
+        }
     } else {
         Ordering::Greater
     }

@@ -7,20 +7,27 @@ ghost use lib.Dec.{leb};
 ghost use Rattle.ieee.specs.Near.{Near, Range, Moved};
 ghost use Rattle.ieee.specs.Root.{rootOf};
 
-// Whether m * 2^52 <= q * (q + 1), for a q of at most 53 bits: each factor is cut into halves of 26 bits and more.
-fn over(q: u64, m: u64) -> bool
-    requires { ⌜ q < 2 ^ 53 ⌝ }
-    ensures { λ r. ⌜ r ≡ leb (m * 2 ^ 52) (q * q + q) ⌝ }
+// Whether m * 2^52 <= q * u, for factors of little more than 53 bits: each is cut at its lowest 26 bits.
+fn at_most(m: u64, q: u64, u: u64) -> bool
+    requires { ⌜ (q < 2 ^ 53) × (u < 2 ^ 54) ⌝ }
+    ensures { λ r. ⌜ r ≡ leb (m * 2 ^ 52) (q * u) ⌝ }
 {
-    let up = q + 1;
     let a = q / 67108864;
     let b = q % 67108864;
-    let c = up / 67108864;
-    let d = up % 67108864;
+    let c = u / 67108864;
+    let d = u % 67108864;
     let s = a * d + b * c;
     let h = a * c + s / 67108864;
     let l = s % 67108864 * 67108864 + b * d;
     m <= h + l / 4503599627370496
+}
+
+// Whether the root of m * 2^52 is below q + 1/2, whose square is q * (q + 1) + 1/4.
+fn over(q: u64, m: u64) -> bool
+    requires { ⌜ q < 2 ^ 53 ⌝ }
+    ensures { λ r. ⌜ r ≡ leb (m * 2 ^ 52) (q * q + q) ⌝ }
+{
+    at_most(m, q, q + 1)
 }
 
 // The whole number nearest to the root of m * 2^52, by bisection.

@@ -1,4 +1,5 @@
--- What `rootOf` is worth: it is nearest to the real root (`root-nearest`), no other double is (`nearest-unique`), and it keeps the order (`root-mono`). Assumes nothing.
+-- What `rootOf` is worth: of every double it is what `IsRoot` says (`root-is`) and nothing else is (`root-only`); it keeps the order (`root-mono`), and the root of an exact square is exact (`root-exact`).
+-- Assumes nothing.
 use mathlib.Core.Path.{_≡_, refl, sym, ap, _∙_, subst}
 use mathlib.Core.Bool.{Bool, true, false, not, cond, true≢false}
 use Prim.Native.Nat.{ℕ, zero, suc, _+_, _-_, _*_, _/_, _%_, _^_, _≤_, _<_, zero-le}
@@ -14,7 +15,7 @@ use lib.Ieee.Exact.{HasValue}
 use lib.Ieee.Order.{round-mono}
 use lib.Ieee.Nearest.{div-mono}
 use lib.Ieee.Positive.{positive, positive-of-value, num, den, le→cross, den-pos}
-use Rattle.ieee.specs.Root.{isqrt, inUnits, rooted, rootOf, Nearest}
+use Rattle.ieee.specs.Root.{isqrt, inUnits, rooted, rootOf, Nearest, IsRoot}
 use Rattle.ieee.specs.Near.{Near, Range, Moved}
 use Rattle.ieee.proofs.Isqrt.{Root, sq-lt, isqrt-root}
 use Rattle.ieee.proofs.Units.{Counts, units-of, same-units}
@@ -330,3 +331,25 @@ root-exact x r f g p q e = nearest-unique x (rootOf x) r (root-nearest x f p) re
 
     less : (u v : ℕ) → v < u → u + v < u + u
     less u v h = omega arith
+
+-- ---- for every double the root is what `IsRoot` says, and nothing else is
+own : (m : ℕ) (e : ℤ) → T (positive (fin false (suc m) e))
+own m e = lt→ltb 0 (suc m) (native.Mathlib.Nat.zero-lt-suc m)
+
+pub root-is : (x : Float) → T (fits binary64 x) → IsRoot x (rootOf x)
+unfolding rootOf
+root-is nan f = refl
+root-is (inf true) f = refl
+root-is (inf false) f = refl
+root-is (fin s zero e) f = refl
+root-is (fin true (suc m) e) f = refl
+root-is (fin false (suc m) e) f = root-nearest (fin false (suc m) e) f (own m e)
+
+pub root-only : (x r : Float) → T (fits binary64 x) → IsRoot x r → r ≡ rootOf x
+unfolding rootOf
+root-only nan r f h = h
+root-only (inf true) r f h = h
+root-only (inf false) r f h = h
+root-only (fin s zero e) r f h = h
+root-only (fin true (suc m) e) r f h = h
+root-only (fin false (suc m) e) r f h = nearest-unique (fin false (suc m) e) r (rootOf (fin false (suc m) e)) h (root-nearest (fin false (suc m) e) f (own m e))
