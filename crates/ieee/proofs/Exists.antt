@@ -1,19 +1,17 @@
 -- For every number above zero there are an m and a j in range, and the whole number nearest to the root of m * 2 ^ 52. Assumes nothing.
 use mathlib.Core.Path.{_≡_, refl, sym, ap, _∙_, subst}
 use mathlib.Core.Bool.{Bool, true, false, not}
-use Prim.Native.Nat.{ℕ, zero, suc, _+_, _-_, _*_, _/_, _%_, _^_, _≤_, _<_}
-use native.Mathlib.Nat.{le-refl, le-trans, le-of-eq, lt-of-le-of-lt, lt-of-lt-of-le, mul-one, mul-le-mul, mul-assoc, mul-comm, pow-suc, lt-of-not-le, not-le-of-lt}
+use Prim.Native.Nat.{ℕ, zero, suc, _+_, _-_, _*_, _^_, _≤_, _<_}
+use native.Mathlib.Nat.{le-refl, le-trans, le-of-eq, lt-of-le-of-lt, mul-one, mul-le-mul, mul-assoc, mul-comm, pow-suc, lt-of-not-le, not-le-of-lt}
 use native.Mathlib.Omega.{arith}
-use lib.Dec.{T, leb, leb→le, nleb→lt, lit<}
+use lib.Dec.{T, leb, leb→le, nleb→lt}
 use Rattle.ieee.specs.Root.{isqrt}
 use Rattle.ieee.specs.Near.{Near, Range, Moved}
-use Rattle.ieee.proofs.Isqrt.{Root, sq-lt, isqrt-root}
+use Rattle.ieee.proofs.Squares.{sq-lt}
+use Rattle.ieee.proofs.Isqrt.{Root, isqrt-root}
 use Rattle.ieee.proofs.Steps.{settled, quarter}
 
 -- ---- the nearest whole number
-suc-sq : (p : ℕ) → (p + 1) * (p + 1) ≡ p * p + 2 * p + 1
-suc-sq p = simp (native.Mathlib.Nat.mul-add, native.Mathlib.Nat.add-mul, mul-comm, native.Mathlib.Nat.add-assoc, native.Mathlib.Nat.add-comm, native.Mathlib.Nat.add-left-comm) (omega arith)
-
 near-at : (m s : ℕ) → Range m → Root (m * 2 ^ 52) s → (q : ℕ) × Near m q
 near-at m s r h = go (leb (m * 2 ^ 52) (s * s + s)) (leb→le (m * 2 ^ 52) (s * s + s)) (nleb→lt (m * 2 ^ 52) (s * s + s))
   where

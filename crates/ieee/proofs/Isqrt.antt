@@ -1,24 +1,12 @@
--- The whole part of a root, and when a fraction rounds to a given whole number. Nothing here is about floats. Assumes nothing.
-use mathlib.Core.Path.{_≡_, refl, sym, ap, _∙_, subst}
+-- The whole part of a root: what `isqrt` gives. Assumes nothing.
+use mathlib.Core.Path.{_≡_, subst}
 use mathlib.Core.Bool.{Bool, true, false, not, cond}
-use Prim.Native.Nat.{ℕ, zero, suc, _+_, _-_, _*_, _/_, _%_, _^_, _≤_, _<_, zero-le}
-use native.Mathlib.Nat.{le-trans, le-of-eq, lt-of-lt-of-le, lt-of-le-of-lt, lt-of-not-le, not-le-of-lt, mul-le-mul, mul-lt-mul-of-pos-right, mul-add, add-mul, mul-comm, mul-assoc, mul-left-comm, add-assoc, add-comm, add-left-comm, div-lt-iff-lt-mul, le-div-iff-mul-le, pow-suc, mul-one}
+use Prim.Native.Nat.{ℕ, zero, suc, _+_, _-_, _*_, _/_, _^_, _≤_, _<_, zero-le}
+use native.Mathlib.Nat.{div-lt-iff-lt-mul, pow-suc}
 use native.Mathlib.Omega.{arith}
 use lib.Dec.{T, leb, leb→le, nleb→lt, lit<}
 use Rattle.ieee.specs.Root.{digit, isqrt}
-
--- ---- squares and order
-pub sq-lt : {a b : ℕ} → a * a < b * b → a < b
-sq-lt {a} {b} h = lt-of-not-le (λ (g : b ≤ a). not-le-of-lt h (mul-le-mul g g))
-
-sq-odd : (h : ℕ) → (2 * h + 1) * (2 * h + 1) ≡ 4 * (h * h) + 4 * h + 1
-sq-odd h = simp (mul-add, add-mul, mul-comm, mul-assoc, mul-left-comm, add-assoc, add-comm, add-left-comm) (omega arith)
-
-sq-even : (h : ℕ) → (2 * h) * (2 * h) ≡ 4 * (h * h)
-sq-even h = simp (mul-comm, mul-assoc, mul-left-comm) (omega arith)
-
-sq-suc : (h : ℕ) → (h + 1) * (h + 1) ≡ h * h + 2 * h + 1
-sq-suc h = simp (mul-add, add-mul, mul-comm, add-assoc, add-comm, add-left-comm) (omega arith)
+use Rattle.ieee.proofs.Squares.{sq-suc, sq-even, sq-odd}
 
 -- ---- isqrt
 abbrev pub Root : ℕ → ℕ → Type 0

@@ -1,4 +1,5 @@
 pub mod Values
+pub mod Squares
 pub mod Isqrt
 pub mod Halves
 pub mod Closest

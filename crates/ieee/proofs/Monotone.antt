@@ -1,16 +1,16 @@
 -- The root keeps the order of all values from zero up, the zeros and the infinity among them. Assumes nothing.
-use mathlib.Core.Path.{_≡_, refl, sym, ap, _∙_, subst}
-use mathlib.Core.Bool.{Bool, true, false, not, _&&_, _||_}
-use Prim.Native.Nat.{ℕ, zero, suc, _+_, _*_, _≤_, _<_}
+use mathlib.Core.Path.{_≡_, sym, subst}
+use mathlib.Core.Bool.{Bool, true, false, _||_}
+use Prim.Native.Nat.{ℕ, zero, suc, _+_, _*_, _<_}
 use native.Mathlib.Nat.{zero-mul, mul-pos, zero-lt-suc}
 use native.Mathlib.Omega.{arith}
 use lib.IntN.{ℤ, pos}
 use lib.Dec.{T, lt→ltb, ltb→lt}
-use lib.Ieee.{Float, nan, inf, fin, binary64, up, down, fits, le, lt, eq, below, level}
+use lib.Ieee.{Float, nan, inf, fin, binary64, up, down, fits, le, lt, below, level}
 use lib.Ieee.Fits.{up-pos, down-pos}
 use lib.Ieee.Positive.{positive, above-of-le}
 use borrow.Author.Tests.{le-ltb, lt-ltb, ne-eqb}
-use Rattle.ieee.specs.Root.{rootOf, Nearest}
+use Rattle.ieee.specs.Root.{rootOf}
 use Rattle.ieee.proofs.RootLaws.{root-nearest, root-mono}
 
 is-false : (s : Bool) (A B : ℕ) → A ≡ 0 → 0 < B → (below s A true B || level s A true B) ≡ false

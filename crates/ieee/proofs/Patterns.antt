@@ -2,16 +2,16 @@
 use mathlib.Core.Path.{_≡_, refl, sym, ap, _∙_, subst}
 use mathlib.Core.Bool.{Bool, true, false, not, cond, true≢false}
 use Prim.Native.Nat.{ℕ, zero, suc, _+_, _-_, _*_, _/_, _%_, _^_, _≤_, _<_}
-use native.Mathlib.Nat.{lt-irrefl, mul-pos, not-le-of-lt, mod-eq-of-lt, zero-mul, zero-lt-suc}
+use native.Mathlib.Nat.{lt-irrefl, mul-pos, mod-eq-of-lt, zero-lt-suc}
 use native.Mathlib.Omega.{arith}
-use lib.Dec.{T, leb, eqb, leb→le, le→leb, eqb→eq, not-T, lit<}
+use lib.Dec.{T, leb, eqb, leb→le, eqb→eq, not-T}
 use lib.Pow.{pow-pos}
 use lib.IntN.{ℤ}
-use lib.Ieee.{Float, nan, inf, fin, binary64, up, down, odd, ofFields, ofBits, fits}
+use lib.Ieee.{Float, nan, inf, fin, binary64, up, odd, ofFields, ofBits, fits}
 use lib.Ieee.Fits.{down-pos}
-use lib.Ieee.Bits.{is-true, is-false, cond-no}
+use lib.Ieee.Bits.{cond-no}
 use lib.Ieee.Exact.{HasValue, odd-sign}
-use borrow.Author.Tests.{eq-eqb, ne-eqb, lt-leb, le-leb}
+use borrow.Author.Tests.{eq-eqb, ne-eqb, lt-leb}
 use Rattle.ieee.specs.Root.{rootOf, rooted, inUnits}
 use Rattle.ieee.proofs.Values.{is-nan, from-pattern}
 use Rattle.ieee.proofs.Units.{Counts, units-of}

@@ -1,18 +1,18 @@
 -- The pattern that `positive` makes stands for the root. Assumes nothing.
 use mathlib.Core.Path.{_≡_, refl, sym, ap, _∙_, subst}
-use mathlib.Core.Bool.{Bool, true, false, not, cond}
+use mathlib.Core.Bool.{Bool, false, not}
 use Prim.Native.Nat.{ℕ, zero, suc, _+_, _-_, _*_, _/_, _%_, _^_, _≤_, _<_}
-use native.Mathlib.Nat.{lt-irrefl, le-trans, le-of-eq, le-of-lt, lt-of-lt-of-le, lt-of-le-of-lt, mul-pos, mul-le-mul, mul-le-mul-right, mul-lt-mul-of-pos-right, mul-comm, mul-assoc, mul-left-comm, mul-right-comm, mod-eq-of-lt}
+use native.Mathlib.Nat.{le-of-lt, lt-of-le-of-lt, mul-pos, mul-le-mul, mul-comm, mul-assoc, mul-left-comm, mul-right-comm}
 use native.Mathlib.Numerals.{add-one}
 use native.Mathlib.Omega.{arith}
-use lib.Dec.{T, ltb, lit<}
+use lib.Dec.{T, lit<}
 use lib.Pow.{pow-pos, pow-add, pow-mono}
-use lib.Ieee.{Float, binary64, units, round, fits, ofBits, nanBits}
+use lib.Ieee.{Float, binary64, units, fits, ofBits, nanBits}
 use lib.Ieee.Bits.{ofBits-fits, nanBits-above}
-use lib.Ieee.Exact.{HasValue, units-val}
+use lib.Ieee.Exact.{units-val}
 use borrow.Author.Tests.{le-ltb}
 use Rattle.ieee.specs.Root.{rootOf, rooted}
-use Rattle.ieee.specs.Near.{Near, Range, Moved}
+use Rattle.ieee.specs.Near.{Near, Moved}
 use Rattle.ieee.proofs.Units.{Counts, same-double}
 use Rattle.ieee.proofs.Patterns.{expo, signif, counts, root-above}
 use Rattle.ieee.proofs.Steps.{full}

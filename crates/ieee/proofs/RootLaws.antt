@@ -1,14 +1,14 @@
 -- What `rootOf` is worth: of every double it is what `IsRoot` says (`root-is`) and nothing else is (`root-only`); it keeps the order (`root-mono`), and the root of an exact square is exact (`root-exact`).
 -- Assumes nothing.
 use mathlib.Core.Path.{_≡_, refl, sym, ap, _∙_, subst}
-use mathlib.Core.Bool.{Bool, true, false, not, cond, true≢false}
-use Prim.Native.Nat.{ℕ, zero, suc, _+_, _-_, _*_, _/_, _%_, _^_, _≤_, _<_, zero-le}
-use native.Mathlib.Nat.{le-refl, le-trans, le-of-eq, le-of-lt, lt-irrefl, lt-trans, lt-of-lt-of-le, lt-of-le-of-lt, lt-of-not-le, not-le-of-lt, mul-le-mul, mul-le-mul-right, mul-lt-mul-of-pos-right, lt-of-mul-lt-mul-right, mul-pos, mul-add, add-mul, mul-comm, mul-assoc, mul-left-comm, mul-right-comm, add-assoc, add-comm, add-left-comm, mul-mul-mul-comm, mul-div-cancel}
+use mathlib.Core.Bool.{Bool, true, false, not, cond}
+use Prim.Native.Nat.{ℕ, zero, suc, _+_, _-_, _*_, _/_, _%_, _^_, _≤_, _<_}
+use native.Mathlib.Nat.{le-trans, le-of-eq, le-of-lt, lt-trans, lt-of-lt-of-le, lt-of-le-of-lt, not-le-of-lt, mul-le-mul, mul-le-mul-right, mul-lt-mul-of-pos-right, lt-of-mul-lt-mul-right, mul-pos, add-mul, mul-assoc, mul-right-comm, add-comm, mul-div-cancel}
 use native.Mathlib.Omega.{arith}
 use lib.IntN.{ℤ}
 use lib.Dec.{T, leb, ltb, eqb, leb→le, nleb→lt, ltb→lt, nltb→le, lt→ltb, eqb→eq, lit<}
 use lib.Pow.{pow-pos, pow-add, pow-mono}
-use lib.Ieee.{Float, nan, inf, fin, binary64, up, down, fits, toBits, ofBits, ofFields, le, round}
+use lib.Ieee.{Float, nan, inf, fin, binary64, down, fits, toBits, ofBits, ofFields, le}
 use lib.Ieee.Fits.{down-pos}
 use lib.Ieee.Bits.{ofBits-fits, ofBits-toBits, toBits-lt}
 use lib.Ieee.Exact.{HasValue}
@@ -16,8 +16,9 @@ use lib.Ieee.Order.{round-mono}
 use lib.Ieee.Nearest.{div-mono}
 use lib.Ieee.Positive.{positive, positive-of-value, num, den, le→cross, den-pos}
 use Rattle.ieee.specs.Root.{isqrt, inUnits, rooted, rootOf, Nearest, IsRoot}
-use Rattle.ieee.specs.Near.{Near, Range, Moved}
-use Rattle.ieee.proofs.Isqrt.{Root, sq-lt, isqrt-root}
+use Rattle.ieee.specs.Near.{Near, Moved}
+use Rattle.ieee.proofs.Squares.{sq-lt, sq-mono, sq-strict, sq-at, sq-suc, sq-odd, sq-double}
+use Rattle.ieee.proofs.Isqrt.{Root, isqrt-root}
 use Rattle.ieee.proofs.Units.{Counts, units-of, same-units}
 use Rattle.ieee.proofs.Patterns.{expo, signif, counts, fields, ofBits-is, at-top-units, positive-pattern, rooted-of}
 use Rattle.ieee.proofs.Steps.{full}
@@ -109,37 +110,6 @@ next-down p j S K Q short h = go (leb j K) (leb→le j K) (nleb→lt j K)
         step : (x : ℕ) → 2 ^ 52 < x + 1 → 2 ^ 52 ≤ x
         step x g = omega arith
 
--- ---- squares
-sq-at : (a h : ℕ) → (a * h) * (a * h) ≡ a * a * (h * h)
-sq-at a h = mul-mul-mul-comm a h a h
-
-sq-mono : {a b : ℕ} → a ≤ b → a * a ≤ b * b
-sq-mono h = mul-le-mul h h
-
-sq-strict : {a b : ℕ} → a < b → a * a < b * b
-sq-strict {a} {b} h = lt-of-not-le (λ (g : b * b ≤ a * a). not-le-of-lt h (root-le g))
-  where
-    root-le : b * b ≤ a * a → b ≤ a
-    root-le g = native.Mathlib.Nat.le-of-suc-le-suc (sq-lt (lt-of-le-of-lt g (bigger a)))
-      where
-        bigger : (x : ℕ) → x * x < suc x * suc x
-        bigger x = lt-of-lt-of-le (lt-of-le-of-lt (le-refl (x * x)) (native.Mathlib.Nat.lt-suc-self (x * x))) (more x)
-          where
-            more : (y : ℕ) → suc (y * y) ≤ suc y * suc y
-            more y = subst (λ (z : ℕ). suc (y * y) ≤ z) (sym (expand y)) (omega arith)
-              where
-                expand : (w : ℕ) → suc w * suc w ≡ w * w + w + w + 1
-                expand w = simp (native.Mathlib.Nat.suc-mul, native.Mathlib.Nat.mul-suc) (omega arith)
-
-odd-sq : (p : ℕ) → (2 * p + 1) * (2 * p + 1) ≡ 4 * (p * p) + 4 * p + 1
-odd-sq p = simp (mul-add, add-mul, mul-comm, mul-assoc, mul-left-comm, add-assoc, add-comm, add-left-comm) (omega arith)
-
-suc-sq : (p : ℕ) → (p + 1) * (p + 1) ≡ p * p + 2 * p + 1
-suc-sq p = simp (mul-add, add-mul, mul-comm, add-assoc, add-comm, add-left-comm) (omega arith)
-
-four-sq : (q h : ℕ) → (q * h + q * h) * (q * h + q * h) ≡ 4 * (q * q * (h * h))
-four-sq q h = simp (mul-add, add-mul, mul-comm, mul-assoc, mul-left-comm, add-assoc, add-comm, add-left-comm) (omega arith)
-
 -- ---- what lies between: n is N * (P * P), the number is q * P units, and y counts S * 2 ^ K
 module _ (N j q : ℕ) (from : 2 ^ 104 ≤ N) (Q : 2 ^ 52 ≤ q) (lo : q * q < N + q) (hi : N ≤ q * q + q) where
   over-at : (y : ℕ) → Shape y → q * 2 ^ j < y → 4 * (N * (2 ^ j * 2 ^ j)) < (q * 2 ^ j + y) * (q * 2 ^ j + y)
@@ -149,7 +119,7 @@ module _ (N j q : ℕ) (from : 2 ^ 104 ≤ N) (Q : 2 ^ 52 ≤ q) (lo : q * q < N
       let e1 : (q + 1) * P ≡ q * P + P = add-mul q 1 P ∙ ap (λ (x : ℕ). q * P + x) (native.Mathlib.Nat.one-mul P) in
       let e2 : (2 * q + 1) * P ≡ 2 * (q * P) + P = add-mul (2 * q) 1 P ∙ ap (λ (x : ℕ). x + 1 * P) (mul-assoc 2 q P) ∙ ap (λ (x : ℕ). 2 * (q * P) + x) (native.Mathlib.Nat.one-mul P) in
       let a : (2 * q + 1) * P ≤ q * P + y = omega arith in
-      let b : 4 * N < (2 * q + 1) * (2 * q + 1) = omega (arith, odd-sq q) in
+      let b : 4 * N < (2 * q + 1) * (2 * q + 1) = omega (arith, sq-odd q) in
       lt-of-lt-of-le (lt-of-le-of-lt (le-of-eq (sym (mul-assoc 4 N (P * P)))) (mul-lt-mul-of-pos-right b (mul-pos (pow-pos j) (pow-pos j))))
       (le-trans (le-of-eq (sym (sq-at (2 * q + 1) P))) (sq-mono a))
 
@@ -162,7 +132,7 @@ module _ (N j q : ℕ) (from : 2 ^ 104 ≤ N) (Q : 2 ^ 52 ≤ q) (lo : q * q < N
       go : (b : Bool) → (T b → q ≤ 2 ^ 52) → (T (not b) → 2 ^ 52 < q) → (q * P + y) * (q * P + y) < 4 * (N * (P * P))
       go true a b =
           let k : q * q ≤ N = le-trans (mul-le-mul (a tt) (a tt)) from in
-          lt-of-lt-of-le (sq-strict (less (q * P) y h)) (le-trans (le-of-eq (four-sq q P)) (native.Mathlib.Nat.mul-le-mul-left 4 (mul-le-mul-right (P * P) k)))
+          lt-of-lt-of-le (sq-strict (less (q * P) y h)) (le-trans (le-of-eq (sq-double (q * P) ∙ ap (λ (x : ℕ). 4 * x) (sq-at q P))) (native.Mathlib.Nat.mul-le-mul-left 4 (mul-le-mul-right (P * P) k)))
         where
           less : (x z : ℕ) → z < x → x + z < x + x
           less x z g = omega arith
@@ -177,7 +147,7 @@ module _ (N j q : ℕ) (from : 2 ^ 104 ≤ N) (Q : 2 ^ 52 ≤ q) (lo : q * q < N
               let e2 : (2 * p + 1) * P ≡ 2 * (p * P) + P = add-mul (2 * p) 1 P ∙ ap (λ (x : ℕ). x + 1 * P) (mul-assoc 2 p P) ∙ ap (λ (x : ℕ). 2 * (p * P) + x) (native.Mathlib.Nat.one-mul P) in
               let c : q * P + y ≤ (2 * p + 1) * P = omega arith in
               let lo' : (p + 1) * (p + 1) < N + (p + 1) = subst (λ (x : ℕ). x * x < N + x) e lo in
-              let d : (2 * p + 1) * (2 * p + 1) < 4 * N = omega (arith, odd-sq p, suc-sq p) in
+              let d : (2 * p + 1) * (2 * p + 1) < 4 * N = omega (arith, sq-odd p, sq-suc p) in
               lt-of-le-of-lt (sq-mono c)
               (lt-of-le-of-lt (le-of-eq (sq-at (2 * p + 1) P))
               (lt-of-lt-of-le (mul-lt-mul-of-pos-right d (mul-pos (pow-pos j) (pow-pos j))) (le-of-eq (mul-assoc 4 N (P * P)))))
@@ -315,15 +285,12 @@ root-mono x y f g p q h =
     (subst (λ (v : Float). T (le (rooted (inUnits x)) v)) (sym (rooted-of y q)) (rooted-mono (inUnits x) (inUnits y) l (units-small y g q)))
 
 -- ---- a root that is a double is the root: so of a square
-double-sq : (u v : ℕ) → 4 * (u * u) ≡ (u + u) * (u + u)
-double-sq u v = simp (mul-add, add-mul, mul-comm, mul-assoc, mul-left-comm, add-assoc, add-comm, add-left-comm) (omega arith)
-
 pub root-exact : (x r : Float) → T (fits binary64 x) → T (fits binary64 r) → T (positive x) → T (positive r) → inUnits r * inUnits r ≡ inUnits x * 2 ^ 1074 → rootOf x ≡ r
 root-exact x r f g p q e = nearest-unique x (rootOf x) r (root-nearest x f p) record {
   held = g;
   above-zero = q;
-  over = λ y fy h. lt-of-le-of-lt (le-of-eq (ap (λ (n : ℕ). 4 * n) (sym e) ∙ double-sq (inUnits r) 0)) (sq-strict (more (inUnits r) (inUnits y) h));
-  under = λ y fy h. lt-of-lt-of-le (sq-strict (less (inUnits r) (inUnits y) h)) (le-of-eq (sym (ap (λ (n : ℕ). 4 * n) (sym e) ∙ double-sq (inUnits r) 0)));
+  over = λ y fy h. lt-of-le-of-lt (le-of-eq (ap (λ (n : ℕ). 4 * n) (sym e) ∙ sym (sq-double (inUnits r)))) (sq-strict (more (inUnits r) (inUnits y) h));
+  under = λ y fy h. lt-of-lt-of-le (sq-strict (less (inUnits r) (inUnits y) h)) (le-of-eq (sym (ap (λ (n : ℕ). 4 * n) (sym e) ∙ sym (sq-double (inUnits r)))));
 }
   where
     more : (u v : ℕ) → u < v → u + u < u + v

@@ -1,18 +1,18 @@
 -- What `rooted` gives: with q the whole number nearest to the root of N, the root of N * 2 ^ 2j units is q * 2 ^ j units, rounded. Assumes nothing.
-use mathlib.Core.Path.{_≡_, refl, sym, ap, _∙_, subst}
+use mathlib.Core.Path.{_≡_, sym, ap, _∙_, subst}
 use mathlib.Core.Bool.{Bool, true, false, not, cond}
-use Prim.Native.Nat.{ℕ, zero, suc, _+_, _-_, _*_, _/_, _%_, _^_, _≤_, _<_, zero-le}
-use native.Mathlib.Nat.{le-refl, le-trans, le-of-eq, le-antisymm, lt-of-lt-of-le, lt-of-le-of-lt, mul-le-mul, mul-le-mul-right, mul-lt-mul-of-pos-right, mul-add, add-mul, mul-comm, mul-assoc, mul-left-comm, mul-right-comm, mul-mul-mul-comm, add-assoc, add-comm, add-left-comm, mul-div-mul-right, mul-pos, pow-suc}
-use native.Mathlib.Numerals.{add-one}
+use Prim.Native.Nat.{ℕ, suc, _+_, _-_, _*_, _/_, _^_, _≤_, _<_, zero-le}
+use native.Mathlib.Nat.{le-refl, le-trans, le-of-eq, le-antisymm, lt-of-lt-of-le, lt-of-le-of-lt, mul-le-mul, mul-le-mul-right, mul-lt-mul-of-pos-right, mul-add, add-mul, mul-comm, mul-assoc, mul-left-comm, add-assoc, add-comm, add-left-comm, mul-div-mul-right, mul-pos}
 use native.Mathlib.Omega.{arith}
-use lib.Dec.{T, ltb, ltb→lt, nltb→le, lit<}
+use lib.Dec.{T, ltb, nltb→le, lit<}
 use lib.Pow.{pow-add, pow-pos, pow-mono}
-use lib.Ieee.{binary64, size, units, round}
-use lib.Ieee.Digits.{size-le, size-lt, size-reaches}
+use lib.Ieee.{binary64, size, units}
+use lib.Ieee.Digits.{size-le, size-lt}
 use lib.Ieee.Fits.{round-is}
 use lib.Ieee.Nearest.{closest, closest-same}
 use Rattle.ieee.specs.Root.{isqrt, rooted}
-use Rattle.ieee.proofs.Isqrt.{Root, sq-lt, isqrt-root}
+use Rattle.ieee.proofs.Squares.{sq-lt, sq-at, sq-suc, sq-odd, sq-double}
+use Rattle.ieee.proofs.Isqrt.{Root, isqrt-root}
 use Rattle.ieee.proofs.Closest.{closest-is}
 
 -- ---- a number from 2 ^ j up and below 2 ^ (j + 1) has j + 1 digits
@@ -44,26 +44,17 @@ high-side n s v a h = go (ltb (s * s) n)
     go false = omega (arith, v-gt)
 
 -- ---- the squares of (2p + 1) H and (2p + 3) H, with q = p + 1, against N * (2H * 2H)
-sq-at : (a h : ℕ) → (a * h) * (a * h) ≡ a * a * (h * h)
-sq-at a h = mul-mul-mul-comm a h a h
-
-odd-sq : (p : ℕ) → (2 * p + 1) * (2 * p + 1) ≡ 4 * (p * p) + 4 * p + 1
-odd-sq p = simp (mul-add, add-mul, mul-comm, mul-assoc, mul-left-comm, add-assoc, add-comm, add-left-comm) (omega arith)
-
 next-sq : (p : ℕ) → (2 * p + 3) * (2 * p + 3) ≡ 4 * (p * p) + 12 * p + 9
 next-sq p = simp (mul-add, add-mul, mul-comm, mul-assoc, mul-left-comm, add-assoc, add-comm, add-left-comm) (omega arith)
 
-suc-sq : (p : ℕ) → (p + 1) * (p + 1) ≡ p * p + 2 * p + 1
-suc-sq p = simp (mul-add, add-mul, mul-comm, add-assoc, add-comm, add-left-comm) (omega arith)
-
 four : (N H : ℕ) → N * ((H + H) * (H + H)) ≡ 4 * N * (H * H)
-four N H = simp (mul-add, add-mul, mul-comm, mul-assoc, mul-left-comm, add-assoc, add-comm, add-left-comm) (omega arith)
+four N H = ap (λ (x : ℕ). N * x) (sq-double H) ∙ mul-left-comm N 4 (H * H) ∙ sym (mul-assoc 4 N (H * H))
 
 module _ (N p H : ℕ) (hp : 0 < H) (lo : (p + 1) * (p + 1) < N + (p + 1)) (hi : N ≤ (p + 1) * (p + 1) + (p + 1)) where
   below : ((2 * p + 1) * H) * ((2 * p + 1) * H) < N * ((H + H) * (H + H))
   below =
-      let e1 = odd-sq p in
-      let e2 = suc-sq p in
+      let e1 = sq-odd p in
+      let e2 = sq-suc p in
       let g : (2 * p + 1) * (2 * p + 1) < 4 * N = omega arith in
       subst (λ (x : ℕ). x < N * ((H + H) * (H + H))) (sym (sq-at (2 * p + 1) H))
       (subst (λ (x : ℕ). (2 * p + 1) * (2 * p + 1) * (H * H) < x) (sym (four N H)) (mul-lt-mul-of-pos-right g (mul-pos hp hp)))
@@ -71,7 +62,7 @@ module _ (N p H : ℕ) (hp : 0 < H) (lo : (p + 1) * (p + 1) < N + (p + 1)) (hi :
   above : N * ((H + H) * (H + H)) < ((2 * p + 3) * H) * ((2 * p + 3) * H)
   above =
       let e1 = next-sq p in
-      let e2 = suc-sq p in
+      let e2 = sq-suc p in
       let g : 4 * N < (2 * p + 3) * (2 * p + 3) = omega arith in
       subst (λ (x : ℕ). N * ((H + H) * (H + H)) < x) (sym (sq-at (2 * p + 3) H))
       (subst (λ (x : ℕ). x < (2 * p + 3) * (2 * p + 3) * (H * H)) (sym (four N H)) (mul-lt-mul-of-pos-right g (mul-pos hp hp)))
@@ -84,7 +75,7 @@ module _ (N p H : ℕ) (hp : 0 < H) (lo : (p + 1) * (p + 1) < N + (p + 1)) (hi :
       let b = high-side n s ((2 * p + 3) * H) (r .0) above in
       let e1 : (2 * p + 1) * H ≡ 2 * (p * H) + H = simp (add-mul, mul-assoc, native.Mathlib.Nat.one-mul) in
       let e2 : (2 * p + 3) * H ≡ 2 * (p * H) + 3 * H = simp (add-mul, mul-assoc) in
-      let e3 : p * (2 * (H + H)) ≡ 4 * (p * H) = simp (mul-add, mul-comm, mul-assoc, mul-left-comm) (omega arith) in
+      let e3 : p * (2 * (H + H)) ≡ 4 * (p * H) = simp (mul-add, mul-left-comm) (omega arith) in
       closest-is p (2 * (H + H)) (2 * s + sticky s n) (omega arith) (omega arith)
 
 half-of : (s t : ℕ) → t ≤ 1 → (2 * s + t) / 2 ≡ s
@@ -154,7 +145,7 @@ module _ (a N p j : ℕ) (e : a * 2 ^ 1074 ≡ N * (2 ^ suc j * 2 ^ suc j)) (fro
       ∙ subst (λ (x : ℕ). closest (2 * whole + sticky whole x) (2 * (H + H)) ≡ suc p) (sym (e ∙ ap (λ (x : ℕ). N * (x * x)) d)) (rounds N p H (pow-pos j) lo hi whole g)
     where
       scaled : (w l x : ℕ) → w * l * (2 * x) ≡ w * (2 * l * x)
-      scaled w l x = simp (mul-assoc, mul-comm, mul-left-comm)
+      scaled w l x = simp (mul-assoc, mul-left-comm)
 
   pub rooted-is : rooted a ≡ units binary64 false (suc p) (suc j)
   unfolding rooted whole halved

@@ -1,13 +1,14 @@
 -- The arithmetic of the loops: a bisection's bounds, and an m moved up by 4. Assumes nothing.
-use mathlib.Core.Path.{_≡_, refl, sym, ap, _∙_, subst}
+use mathlib.Core.Path.{_≡_, sym, ap, _∙_, subst}
 use mathlib.Core.Bool.{true, false}
-use Prim.Native.Nat.{ℕ, zero, suc, _+_, _-_, _*_, _/_, _%_, _^_, _≤_, _<_}
-use native.Mathlib.Nat.{lt-irrefl, le-trans, le-of-eq, lt-of-le-of-lt, mul-one, mul-le-mul, mul-le-mul-right, mul-add, add-mul, mul-comm, mul-assoc, mul-left-comm, add-assoc, add-comm, add-left-comm, two-pow-succ, lt-of-not-le, not-le-of-lt}
+use Prim.Native.Nat.{ℕ, zero, suc, _+_, _-_, _*_, _^_, _≤_, _<_}
+use native.Mathlib.Nat.{lt-irrefl, le-trans, le-of-eq, lt-of-le-of-lt, mul-one, mul-le-mul, mul-assoc, two-pow-succ, lt-of-not-le, not-le-of-lt}
 use native.Mathlib.Omega.{arith}
-use lib.Dec.{leb, lit<, lit≤}
-use lib.Pow.{pow-pos, pow-mono}
+use lib.Dec.{leb, lit<}
+use lib.Pow.{pow-mono}
 use borrow.Author.Tests.{leb-true, leb-false}
 use Rattle.ieee.specs.Near.{Near, Range}
+use Rattle.ieee.proofs.Squares.{sq-suc, sq-double}
 
 -- ---- what `over` tells of q: N ≤ q * q + q, or not
 pub is-over : (m q : ℕ) {r : mathlib.Core.Bool.Bool} → r ≡ leb (m * 2 ^ 52) (q * q + q) → r ≡ true → m * 2 ^ 52 ≤ q * q + q
@@ -16,14 +17,11 @@ is-over m q e t = leb-true (m * 2 ^ 52) (q * q + q) (sym e ∙ t)
 pub not-over : (m q : ℕ) {r : mathlib.Core.Bool.Bool} → r ≡ leb (m * 2 ^ 52) (q * q + q) → r ≡ false → q * q + q < m * 2 ^ 52
 not-over m q e t = leb-false (m * 2 ^ 52) (q * q + q) (sym e ∙ t)
 
-suc-sq : (p : ℕ) → (p + 1) * (p + 1) ≡ p * p + 2 * p + 1
-suc-sq p = simp (mul-add, add-mul, mul-comm, add-assoc, add-comm, add-left-comm) (omega arith)
-
 -- q is right where N is over q - 1 and not over q
 pub settled : (m p q : ℕ) → q ≡ p + 1 → q < 2 ^ 53 → p * p + p < m * 2 ^ 52 → m * 2 ^ 52 ≤ q * q + q → Near m q
 settled m p q e s lo hi = record {
   small = s;
-  low = subst (λ (x : ℕ). x * x < m * 2 ^ 52 + x) (sym e) (omega (arith, suc-sq p));
+  low = subst (λ (x : ℕ). x * x < m * 2 ^ 52 + x) (sym e) (omega (arith, sq-suc p));
   high = hi;
 }
 
@@ -56,7 +54,7 @@ room m j n zero e p h s = absurd (no-room m j n e p h s)
 room m j n (suc k) e p h s = native.Mathlib.Nat.zero-lt-suc k
 
 quarter-suc : (n h : ℕ) → n * 4 * (h * h) ≡ n * ((h + h) * (h + h))
-quarter-suc n h = simp (mul-add, add-mul, mul-comm, mul-assoc, mul-left-comm, add-assoc, add-comm, add-left-comm) (omega arith)
+quarter-suc n h = mul-assoc n 4 (h * h) ∙ ap (λ (x : ℕ). n * x) (sym (sq-double h))
 
 pub quarter : (n k : ℕ) → 0 < k → n * 4 * (2 ^ (k - 1) * 2 ^ (k - 1)) ≡ n * (2 ^ k * 2 ^ k)
 quarter n zero h = absurd (lt-irrefl 0 h)

@@ -14,8 +14,8 @@ use lib.Ieee.Nearest.{div-same}
 use Rattle.laws.specs.Floats.{Numeric}
 use Rattle.laws.proofs.Choice.{decided, clash, is-true, is-false, or-cases, or-l, or-r}
 use Rattle.laws.proofs.Order.{lt-trans, lt-eq, eq-lt, eq-trans, eq-sym, lt-asym, lt-not-eq, lt-left, trichotomy}
-use Rattle.ieee.specs.TotalOrder.{isZero, totalOrder, orderingOf, totalOf}
-use Rattle.ieee.specs.declared.order.Ordering.the-variants.{Less, Equal, Greater}
+use Rattle.ieee.specs.TotalOrder.{isZero, totalOrder, totalOf}
+use Rattle.ieee.specs.declared.order.Ordering.the-variants.{Less}
 
 -- ---- the zeros
 one-sign : (x : Float) → T (isZero true x) → T (isZero false x) → ⊥

@@ -2,7 +2,7 @@
 use mathlib.Core.Path.{_≡_, refl}
 use mathlib.Core.Bool.{true, false}
 use Prim.Native.Nat.{_*_, _^_}
-use lib.Ieee.{Float, nan, binary64, ofBits, toBits, round, neg, lt, isNan}
+use lib.Ieee.{nan, binary64, ofBits, toBits, round, neg, lt, isNan}
 use Rattle.ieee.specs.Consts.{zero, one, two, half, sectorSlack, rowMargin, flatWithin}
 use Rattle.ieee.specs.Root.{rootOf}
 use Rattle.ieee.specs.Num.{maxOf, minOf, clampOf, sameOf}

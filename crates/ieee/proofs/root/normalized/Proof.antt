@@ -1,10 +1,8 @@
 -- `root::scaled` meets its contract. The invariant: n * 4 ^ k is m * 4 ^ j. The measure: what n lacks of 2 ^ 54. Assumes nothing.
 use mathlib.Core.Path.{_≡_, refl, _∙_}
-use Prim.Native.Nat.{_+_, _-_, _*_, _^_, _/_, _≤_, _<_}
+use Prim.Native.Nat.{_-_, _*_, _^_, _≤_, _<_}
 use native.Mathlib.Nat.{le-refl}
 use native.Mathlib.Omega.{arith}
-use lib.Dec.{lit<, lit≤}
-use Rattle.ieee.specs.Near.{Moved, Range}
 use Rattle.ieee.proofs.Steps.{room, quarter}
 use Rattle.ieee.proofs.root.normalized.Statement.{statement}
 use Rattle.ieee.proofs.root.normalized.Tie as tie

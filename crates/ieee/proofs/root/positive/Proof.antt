@@ -1,5 +1,4 @@
-use Prim.Native.Nat.{_+_, _-_, _*_, _/_, _%_, _^_, _≤_, _<_}
-use mathlib.Core.Path.{_≡_, sym}
+use Prim.Native.Nat.{_+_, _-_, _*_, _/_, _%_, _^_, _≤_}
 use borrow.Author.Needs.{needs}
 use native.Mathlib.Omega.{arith}
 use Rattle.ieee.specs.Near.{Moved}

@@ -1,9 +1,9 @@
 use borrow.Author.Needs.{needs}
-use mathlib.Core.Path.{_≡_, refl, sym, ap, _∙_, subst}
+use mathlib.Core.Path.{refl, sym, ap, _∙_, subst}
 use Prim.Native.Nat.{_^_, _<_}
 use lib.Dec.{T}
 use lib.Ieee.Bits.{toBits-lt}
-use lib.Ieee.{Float, binary64, fits, toBits, ofBits}
+use lib.Ieee.{binary64, fits, toBits}
 use native.Mathlib.Omega.{arith}
 use Rattle.ieee.specs.Root.{rootOf}
 use Rattle.ieee.proofs.Values.{no-nan, from-pattern, zero-over-zero}

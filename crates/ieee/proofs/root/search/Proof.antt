@@ -1,9 +1,7 @@
 -- `root::search` meets its contract. The invariant: m * 2 ^ 52 is over lo, and not over hi. The measure: hi - lo. Assumes nothing.
-use mathlib.Core.Path.{_≡_, refl}
 use Prim.Native.Nat.{_+_, _-_, _*_, _^_, _/_, _≤_, _<_}
 use native.Mathlib.Omega.{arith}
 use lib.Dec.{lit<, lit≤}
-use Rattle.ieee.specs.Near.{Near, Range}
 use Rattle.ieee.proofs.Steps.{is-over, not-over, settled, first-low, first-high}
 use Rattle.ieee.proofs.root.search.Statement.{statement}
 use Rattle.ieee.proofs.root.search.Tie as tie

@@ -1,7 +1,6 @@
 use Prim.Native.Nat.{_+_, _-_}
 use borrow.Author.Needs.{needs}
 use native.Mathlib.Omega.{arith}
-use mathlib.Core.Path.{refl}
 use Rattle.ieee.proofs.Steps.{is-over, not-over, settled}
 use Rattle.ieee.proofs.root.significand.Statement.{statement}
 use Rattle.ieee.proofs.root.significand.Tie as tie
