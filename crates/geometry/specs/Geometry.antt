@@ -1,9 +1,9 @@
 -- geometry/mod.rs, operation by operation. Definitions only.
-use mathlib.Core.Bool.{Bool, cond, _&&_}
+use mathlib.Core.Bool.{cond, _&&_}
 use mathlib.Core.List.{List, [], _∷_, map}
 use lib.Ieee.{Float, lt, neg}
 use Rattle.ieee.specs.Operators.{_⊕_, _⊖_, _⊗_, _⊘_}
-use Rattle.ieee.specs.Consts.{zero, one}
+use Rattle.ieee.specs.Consts.{zeroF}
 use Rattle.ieee.specs.Num.{finite}
 use Rattle.ieee.specs.Root.{rootOf}
 use Rattle.geometry.specs.declared.Point.{Point}
@@ -20,7 +20,7 @@ vectorOf d = record { x = d .x; y = d .y }
 
 -- (x, y) over its length, where that is finite and above zero
 abbrev pub overLength : Float → Float → Float → MaybeDir
-overLength x y length = cond (finite length && lt zero length) (SomeDir (record { x = x ⊘ length; y = y ⊘ length })) NoDir
+overLength x y length = cond (finite length && lt zeroF length) (SomeDir (record { x = x ⊘ length; y = y ⊘ length })) NoDir
 
 unfoldable pub dirOf : Float → Float → MaybeDir
 dirOf x y = overLength x y (rootOf (x ⊗ x ⊕ y ⊗ y))
@@ -37,9 +37,9 @@ halfwayOf d to =
     let dot = d .x ⊗ to .x ⊕ d .y ⊗ to .y in
     let sx = d .x ⊕ to .x in
     let sy = d .y ⊕ to .y in
-    cond (lt zero cross) (dirOr (dirOf sx sy) d)
-    (cond (lt cross zero) (dirOr (dirOf (neg sx) (neg sy)) d)
-    (cond (lt dot zero) (record { x = neg (d .y); y = d .x }) d))
+    cond (lt zeroF cross) (dirOr (dirOf sx sy) d)
+    (cond (lt cross zeroF) (dirOr (dirOf (neg sx) (neg sy)) d)
+    (cond (lt dot zeroF) (record { x = neg (d .y); y = d .x }) d))
 
 -- ---- Seg
 abbrev pub onCircle : Point → Float → Dir → Point

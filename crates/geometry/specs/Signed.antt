@@ -2,7 +2,7 @@
 use mathlib.Core.Bool.{Bool, false, not, cond, _&&_}
 use lib.Ieee.{Float, lt, le, neg}
 use Rattle.ieee.specs.Operators.{_⊕_, _⊖_, _⊗_, _⊘_}
-use Rattle.ieee.specs.Consts.{zero, one, half, sectorSlack}
+use Rattle.ieee.specs.Consts.{zeroF, oneF, halfF, sectorSlack}
 use Rattle.ieee.specs.Num.{finite}
 use Rattle.ieee.specs.Root.{rootOf}
 use Rattle.geometry.specs.Geometry.{vectorOf, dirOf, dirOr}
@@ -37,20 +37,20 @@ inSector u from to =
     let f = vectorOf from in
     let t = vectorOf to in
     let sweep = crossOf f t in
-    cond (lt zero sweep) (le (neg sectorSlack) (crossOf f u) && le (neg sectorSlack) (crossOf u t) && lt zero (dotOf u f ⊕ dotOf u t))
-    (cond (lt sweep zero) (not (lt sectorSlack (crossOf t u) && lt sectorSlack (crossOf u f)))
-    (cond (lt (dotOf f t) zero) (le (neg sectorSlack) (crossOf f u)) false))
+    cond (lt zeroF sweep) (le (neg sectorSlack) (crossOf f u) && le (neg sectorSlack) (crossOf u t) && lt zeroF (dotOf u f ⊕ dotOf u t))
+    (cond (lt sweep zeroF) (not (lt sectorSlack (crossOf t u) && lt sectorSlack (crossOf u f)))
+    (cond (lt (dotOf f t) zeroF) (le (neg sectorSlack) (crossOf f u)) false))
 
 -- where c falls along a face: 0 at its start, 1 at its end
 unfoldable pub alongOf : Point → Face → Position
 alongOf c face =
     let edge = subOf (face .b) (face .a) in
     let len2 = dotOf edge edge in
-    cond (lt zero len2 && finite len2) (At (dotOf (subOf c (face .a)) edge ⊘ len2)) NoLength
+    cond (lt zeroF len2 && finite len2) (At (dotOf (subOf c (face .a)) edge ⊘ len2)) NoLength
 
 -- (0.0..=1.0).contains
 abbrev pub onSpan : Position → Bool
-onSpan (At t) = le zero t && le t one
+onSpan (At t) = le zeroF t && le t oneF
 onSpan NoLength = false
 
 unfoldable pub discOnFace : Disc → Face → MaybeProximity
@@ -58,7 +58,7 @@ discOnFace disc face =
     let c = disc .center in
     let n = vectorOf (face .normal) in
     let gap = dotOf (subOf c (face .a)) n ⊖ disc .radius in
-    let back = disc .radius ⊕ half ⊗ gap in
+    let back = disc .radius ⊕ halfF ⊗ gap in
     cond (onSpan (alongOf c face))
     (cond (inSector (opposite (face .normal)) (disc .from) (disc .to))
     (SomeProximity (record { gap = gap; normal = face .normal; point = record { x = c .x ⊖ back ⊗ n .x; y = c .y ⊖ back ⊗ n .y } }))
@@ -71,7 +71,7 @@ discsAlong a b NoDir = NoProximity
 discsAlong a b (SomeDir normal) =
     let d = subOf (a .center) (b .center) in
     let gap = rootOf (dotOf d d) ⊖ a .radius ⊖ b .radius in
-    let out = b .radius ⊕ half ⊗ gap in
+    let out = b .radius ⊕ halfF ⊗ gap in
     cond (inSector (opposite normal) (a .from) (a .to))
     (cond (inSector (vectorOf normal) (b .from) (b .to))
     (SomeProximity (record { gap = gap; normal = normal; point = record { x = b .center .x ⊕ out ⊗ normal .x; y = b .center .y ⊕ out ⊗ normal .y } }))
@@ -87,7 +87,7 @@ centerAlong center face NoDir = NoProximity
 centerAlong center face (SomeDir normal) =
     let n = vectorOf (face .normal) in
     let gap = dotOf (subOf center (face .a)) n in
-    let h = half ⊗ gap in
+    let h = halfF ⊗ gap in
     SomeProximity (record { gap = gap; normal = normal; point = record { x = center .x ⊖ h ⊗ n .x; y = center .y ⊖ h ⊗ n .y } })
 
 unfoldable pub centerOnFace : Point → Face → MaybeProximity
@@ -101,7 +101,7 @@ reversedOf p = let n = opposite (p .normal) in record { gap = p .gap; normal = d
 
 -- the points of A's and of B's surface: midway plus and less half the gap along the normal
 abbrev pub onA : Proximity → Point
-onA p = let h = half ⊗ p .gap in record { x = p .point .x ⊕ h ⊗ p .normal .x; y = p .point .y ⊕ h ⊗ p .normal .y }
+onA p = let h = halfF ⊗ p .gap in record { x = p .point .x ⊕ h ⊗ p .normal .x; y = p .point .y ⊕ h ⊗ p .normal .y }
 
 abbrev pub onB : Proximity → Point
-onB p = let h = half ⊗ p .gap in record { x = p .point .x ⊖ h ⊗ p .normal .x; y = p .point .y ⊖ h ⊗ p .normal .y }
+onB p = let h = halfF ⊗ p .gap in record { x = p .point .x ⊖ h ⊗ p .normal .x; y = p .point .y ⊖ h ⊗ p .normal .y }

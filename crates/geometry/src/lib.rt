@@ -31,8 +31,11 @@ pub enum MaybeDir {
 
 impl Dir {
     pub const X: Self = Self { x: 1.0, y: 0.0 };
+
     pub const Y: Self = Self { x: 0.0, y: 1.0 };
+
     pub const NEG_X: Self = Self { x: -1.0, y: 0.0 };
+
     pub const NEG_Y: Self = Self { x: 0.0, y: -1.0 };
 
     // The direction of (x, y), where its computed length is finite and above zero.
@@ -95,8 +98,16 @@ pub fn dir_or(found: MaybeDir, other: Dir) -> Dir
 
 // A line from a to b, or an arc about c from the direction `from` counter-clockwise to the direction `to`.
 pub enum Seg {
-    Line { a: Point, b: Point },
-    Arc { c: Point, r: f64, from: Dir, to: Dir },
+    Line {
+        a: Point,
+        b: Point,
+    },
+    Arc {
+        c: Point,
+        r: f64,
+        from: Dir,
+        to: Dir,
+    },
 }
 
 // c + r d: the point of a circle in a direction.

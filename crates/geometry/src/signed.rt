@@ -1,7 +1,6 @@
 // The three signed distances (geometry/signed.rs): a disc on a face, a disc on a disc, a centre on a face.
 ghost use mathlib.Core.Path.{_≡_};
 ghost use Rattle.geometry.specs.Signed.{subOf, dotOf, crossOf, opposite, inSector, alongOf, onSpan, discOnFace, discOnDisc, centerOnFace, reversedOf, onA, onB};
-
 use crate::Dir;
 use crate::MaybeDir;
 use crate::Point;
@@ -204,10 +203,12 @@ impl Proximity {
     {
         let n = self.normal;
         let point = self.point;
-        let normal = dir_or(Dir::new(-n.x, -n.y), n);
+        let x = -n.x;
+        let y = -n.y;
+        let back = dir_or(Dir::new(x, y), n);
         Proximity {
             gap: self.gap,
-            normal,
+            normal: back,
             point,
         }
     }

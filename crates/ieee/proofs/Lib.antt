@@ -13,3 +13,4 @@ pub mod RootLaws
 pub mod Monotone
 pub mod TotalOrder
 pub mod Worked
+pub mod Arithmetic

@@ -12,7 +12,7 @@ use lib.Ieee.Fits.{up-pos}
 use lib.Ieee.Bits.{ofBits-toBits, nanBits-is, nanBits-above}
 use lib.Ieee.Compare.{differs-from-itself}
 use borrow.Author.Tests.{eq-eqb, ne-eqb, lt-ltb, le-ltb}
-use Rattle.ieee.specs.Consts.{infinity}
+use Rattle.ieee.specs.Consts.{infinityF}
 use Rattle.ieee.specs.Num.{finite, absOf}
 use Rattle.ieee.specs.TotalOrder.{isZero}
 
@@ -69,7 +69,7 @@ unfolding toBits
 nan-bits = refl
 
 -- ---- infinities
-pub finite-test : (x : Float) → (lt x infinity && lt (neg infinity) x) ≡ finite x
+pub finite-test : (x : Float) → (lt x infinityF && lt (neg infinityF) x) ≡ finite x
 unfolding lt neg ofBits
 finite-test nan = refl
 finite-test (inf true) = refl

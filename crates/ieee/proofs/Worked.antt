@@ -3,7 +3,7 @@ use mathlib.Core.Path.{_≡_, refl}
 use mathlib.Core.Bool.{true, false}
 use Prim.Native.Nat.{_*_, _^_}
 use lib.Ieee.{nan, binary64, ofBits, toBits, round, neg, lt, isNan}
-use Rattle.ieee.specs.Consts.{zero, one, two, half, sectorSlack, rowMargin, flatWithin}
+use Rattle.ieee.specs.Consts.{zeroF, oneF, twoF, halfF, sectorSlack, rowMargin, flatWithin}
 use Rattle.ieee.specs.Root.{rootOf}
 use Rattle.ieee.specs.Num.{maxOf, minOf, clampOf, sameOf}
 
@@ -12,11 +12,11 @@ root-least : rootOf (ofBits binary64 1) ≡ ofBits binary64 (486 * 2 ^ 52)
 unfolding rootOf ofBits
 root-least = refl
 
-root-minus-zero : rootOf (neg zero) ≡ neg zero
+root-minus-zero : rootOf (neg zeroF) ≡ neg zeroF
 unfolding rootOf ofBits neg
 root-minus-zero = refl
 
-root-two : rootOf two ≡ ofBits binary64 0x3ff6_a09e_667f_3bcd
+root-two : rootOf twoF ≡ ofBits binary64 0x3ff6_a09e_667f_3bcd
 unfolding rootOf ofBits
 root-two = refl
 
@@ -24,20 +24,20 @@ root-largest : rootOf (ofBits binary64 0x7fef_ffff_ffff_ffff) ≡ ofBits binary6
 unfolding rootOf ofBits
 root-largest = refl
 
-root-below-zero : rootOf (neg one) ≡ nan
+root-below-zero : rootOf (neg oneF) ≡ nan
 unfolding rootOf ofBits neg
 root-below-zero = refl
 
 -- each constant is the double nearest to its decimal
-one-is : one ≡ round binary64 false 1 1
+one-is : oneF ≡ round binary64 false 1 1
 unfolding ofBits round
 one-is = refl
 
-two-is : two ≡ round binary64 false 2 1
+two-is : twoF ≡ round binary64 false 2 1
 unfolding ofBits round
 two-is = refl
 
-half-is : half ≡ round binary64 false 1 2
+half-is : halfF ≡ round binary64 false 1 2
 unfolding ofBits round
 half-is = refl
 
@@ -54,23 +54,23 @@ unfolding ofBits round
 flat-within-is = refl
 
 -- of both zeros the first is kept; a NaN gives way, on either side; clamp keeps -0.0 and NaN
-max-zeros : maxOf (neg zero) zero ≡ neg zero
+max-zeros : maxOf (neg zeroF) zeroF ≡ neg zeroF
 unfolding ofBits neg lt isNan
 max-zeros = refl
 
-min-zeros : minOf zero (neg zero) ≡ zero
+min-zeros : minOf zeroF (neg zeroF) ≡ zeroF
 unfolding ofBits neg lt isNan
 min-zeros = refl
 
-max-nan : maxOf nan one ≡ one
+max-nan : maxOf nan oneF ≡ oneF
 unfolding isNan
 max-nan = refl
 
-nan-max : maxOf one nan ≡ one
+nan-max : maxOf oneF nan ≡ oneF
 unfolding ofBits lt isNan
 nan-max = refl
 
-clamp-minus-zero : clampOf (neg zero) ≡ neg zero
+clamp-minus-zero : clampOf (neg zeroF) ≡ neg zeroF
 unfolding ofBits neg lt
 clamp-minus-zero = refl
 
@@ -83,7 +83,7 @@ same-nans : sameOf nan nan ≡ true
 unfolding toBits
 same-nans = refl
 
-zeros-differ : sameOf zero (neg zero) ≡ false
+zeros-differ : sameOf zeroF (neg zeroF) ≡ false
 unfolding ofBits neg toBits
 zeros-differ = refl
 

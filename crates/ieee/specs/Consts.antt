@@ -1,20 +1,20 @@
 -- The numbers that the code writes, by their bit patterns. proofs/Worked.antt shows that each is the double nearest to its decimal. Definitions only.
 use lib.Ieee.{Float, binary64, ofBits}
 
-abbrev pub zero : Float
-zero = ofBits binary64 0
+abbrev pub zeroF : Float
+zeroF = ofBits binary64 0
 
-abbrev pub one : Float
-one = ofBits binary64 0x3ff0_0000_0000_0000
+abbrev pub oneF : Float
+oneF = ofBits binary64 0x3ff0_0000_0000_0000
 
-abbrev pub two : Float
-two = ofBits binary64 0x4000_0000_0000_0000
+abbrev pub twoF : Float
+twoF = ofBits binary64 0x4000_0000_0000_0000
 
-abbrev pub half : Float
-half = ofBits binary64 0x3fe0_0000_0000_0000
+abbrev pub halfF : Float
+halfF = ofBits binary64 0x3fe0_0000_0000_0000
 
-abbrev pub infinity : Float
-infinity = ofBits binary64 0x7ff0_0000_0000_0000
+abbrev pub infinityF : Float
+infinityF = ofBits binary64 0x7ff0_0000_0000_0000
 
 -- SECTOR_SLACK, 8 * 2^-52 = 2^-49
 abbrev pub sectorSlack : Float

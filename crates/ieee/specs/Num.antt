@@ -2,7 +2,7 @@
 use mathlib.Core.Bool.{Bool, true, false, cond}
 use lib.Dec.{eqb}
 use lib.Ieee.{Float, nan, inf, fin, binary64, lt, isNan, toBits}
-use Rattle.ieee.specs.Consts.{zero, one}
+use Rattle.ieee.specs.Consts.{zeroF, oneF}
 
 -- neither a NaN nor an infinity
 abbrev pub finite : Float → Bool
@@ -25,7 +25,7 @@ minOf a b = cond (isNan a) b (cond (lt b a) b a)
 
 -- clamp(0.0, 1.0): a NaN stays
 abbrev pub clampOf : Float → Float
-clampOf x = cond (lt x zero) zero (cond (lt one x) one x)
+clampOf x = cond (lt x zeroF) zeroF (cond (lt oneF x) oneF x)
 
 -- Bit for bit, for a model with one NaN, so that two NaNs are the same and the two zeros are not.
 abbrev pub sameOf : Float → Float → Bool

@@ -2,7 +2,7 @@
 ghost use mathlib.Core.Path.{_≡_};
 ghost use mathlib.Core.Bool.{cond};
 ghost use lib.Ieee.{isNan};
-ghost use Rattle.ieee.specs.Consts.{infinity};
+ghost use Rattle.ieee.specs.Consts.{infinityF};
 ghost use Rattle.ieee.specs.Num.{finite, absOf, maxOf, minOf, clampOf, sameOf};
 use crate::bits::pattern;
 
@@ -19,7 +19,7 @@ pub fn is_nan(x: f64) -> bool
 }
 
 pub fn infinity() -> f64
-    ensures { λ r. ⌜ r ≡ infinity ⌝ }
+    ensures { λ r. ⌜ r ≡ infinityF ⌝ }
 {
     f64::from_bits(0x7ff0_0000_0000_0000)
 }

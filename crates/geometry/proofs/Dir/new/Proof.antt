@@ -13,13 +13,13 @@ returns : tie.Need-returns
 unfolding dirOf
 returns c =
     let t1 = simp (c .before .is-finite .ensures, c .before .before .root .ensures) at (c .if1 .taken) in
-    simp (t1, c .before .is-finite .ensures, c .before .before .root .ensures)
+    simp (t1, c .before .before .root .ensures)
 
 returns-2 : tie.Need-returns-2
 unfolding dirOf
 returns-2 c =
     let t1 = simp (c .before .is-finite .ensures, c .before .before .root .ensures) at (c .if1 .left) in
-    simp (t1, c .before .is-finite .ensures, c .before .before .root .ensures)
+    simp (t1)
 
 pub new-spec : {M : Type 1} → statement M
 new-spec = tie.close (tie.spec root-requires is-finite-requires returns returns-2)

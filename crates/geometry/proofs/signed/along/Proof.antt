@@ -22,13 +22,13 @@ returns : tie.Need-returns
 unfolding alongOf
 returns c =
     let t1 = simp (c .before .before .before .is-finite .ensures, c .before .before .before .before .dot .ensures, c .before .before .before .before .before .sub .ensures) at (c .before .before .if1 .taken) in
-    simp (t1, c .dot2 .ensures, c .before .sub2 .ensures, c .before .before .before .is-finite .ensures, c .before .before .before .before .dot .ensures, c .before .before .before .before .before .sub .ensures)
+    simp (t1, c .dot2 .ensures, c .before .sub2 .ensures, c .before .before .before .before .dot .ensures, c .before .before .before .before .before .sub .ensures)
 
 returns-2 : tie.Need-returns-2
 unfolding alongOf
 returns-2 c =
     let t1 = simp (c .before .is-finite .ensures, c .before .before .dot .ensures, c .before .before .before .sub .ensures) at (c .if1 .left) in
-    simp (t1, c .before .is-finite .ensures, c .before .before .dot .ensures, c .before .before .before .sub .ensures)
+    simp (t1)
 
 pub along-spec : {M : Type 1} → statement M
 along-spec =

@@ -25,8 +25,8 @@ returns : tie.Need-returns
 unfolding centerOnFace
 returns c =
     let t1 = simp (c .before .before .before .before .before .before .before .on-span .ensures, c .before .before .before .before .before .before .before .before .along .ensures) at (c .before .before .before .before .before .before .if1 .taken) in
-    let t2 = simp (c .before .before .new .ensures, c .before .before .before .before .before .vector .ensures, c .before .before .before .before .before .before .before .on-span .ensures, c .before .before .before .before .before .before .before .before .along .ensures) at (c .enum-told .given .1) in
-    simp (t1, t2, c .before .before .new .ensures, c .before .before .before .before .before .vector .ensures, c .before .before .before .before .before .before .before .on-span .ensures, c .before .before .before .before .before .before .before .before .along .ensures)
+    let t2 = simp (c .before .before .new .ensures, c .before .before .before .before .before .vector .ensures) at (c .enum-told .given .1) in
+    simp (t1, t2)
 
 sub-requires : tie.Need-sub-requires
 sub-requires c κs = search needs
@@ -45,7 +45,7 @@ returns-3 : tie.Need-returns-3
 unfolding centerOnFace
 returns-3 c =
     let t1 = simp (c .before .on-span .ensures, c .before .before .along .ensures) at (c .if1 .left) in
-    simp (t1, c .before .on-span .ensures, c .before .before .along .ensures)
+    simp (t1)
 
 pub center-on-face-spec : {M : Type 1} → statement M
 center-on-face-spec =

@@ -19,7 +19,7 @@ returns : tie.Need-returns
 unfolding discOnDisc
 returns c =
     let t1 = simp (c .before .before .new .ensures, c .before .before .before .sub .ensures) at (c .enum-told .given .1) in
-    simp (t1, c .before .before .new .ensures, c .before .before .before .sub .ensures)
+    simp (t1)
 
 turned-round-requires : tie.Need-turned-round-requires
 turned-round-requires c κs = search needs
@@ -52,15 +52,15 @@ unfolding discOnDisc
 returns-3 c =
     let t1 = simp (c .before .before .before .before .before .before .before .before .before .new .ensures, c .before .before .before .before .before .before .before .before .before .before .sub .ensures) at (c .before .before .before .before .before .before .before .found .given .1) in
     let t2 = simp (c .before .before .before .before .in-sector .ensures, c .before .before .before .before .before .turned-round .ensures, c .before .before .before .before .before .before .before .before .before .new .ensures, c .before .before .before .before .before .before .before .before .before .before .sub .ensures) at (c .before .before .before .if1 .taken) in
-    let t3 = simp (c .before .in-sector2 .ensures, c .before .before .vector .ensures, c .before .before .before .before .in-sector .ensures, c .before .before .before .before .before .turned-round .ensures, c .before .before .before .before .before .before .before .before .before .new .ensures, c .before .before .before .before .before .before .before .before .before .before .sub .ensures) at (c .if2 .left) in
-    simp (t1, t2, t3, c .before .in-sector2 .ensures, c .before .before .vector .ensures, c .before .before .before .before .in-sector .ensures, c .before .before .before .before .before .turned-round .ensures, c .before .before .before .before .before .before .before .before .before .new .ensures, c .before .before .before .before .before .before .before .before .before .before .sub .ensures)
+    let t3 = simp (c .before .in-sector2 .ensures, c .before .before .vector .ensures, c .before .before .before .before .before .before .before .before .before .new .ensures, c .before .before .before .before .before .before .before .before .before .before .sub .ensures) at (c .if2 .left) in
+    simp (t1, t2, t3, c .before .before .before .before .before .before .before .before .before .new .ensures, c .before .before .before .before .before .before .before .before .before .before .sub .ensures)
 
 returns-4 : tie.Need-returns-4
 unfolding discOnDisc
 returns-4 c =
     let t1 = simp (c .before .before .before .before .before .before .new .ensures, c .before .before .before .before .before .before .before .sub .ensures) at (c .before .before .before .before .found .given .1) in
-    let t2 = simp (c .before .in-sector .ensures, c .before .before .turned-round .ensures, c .before .before .before .before .before .before .new .ensures, c .before .before .before .before .before .before .before .sub .ensures) at (c .if1 .left) in
-    simp (t1, t2, c .before .in-sector .ensures, c .before .before .turned-round .ensures, c .before .before .before .before .before .before .new .ensures, c .before .before .before .before .before .before .before .sub .ensures)
+    let t2 = simp (c .before .in-sector .ensures, c .before .before .turned-round .ensures) at (c .if1 .left) in
+    simp (t1, t2)
 
 pub disc-on-disc-spec : {M : Type 1} → statement M
 disc-on-disc-spec =

@@ -35,14 +35,14 @@ returns-2 : tie.Need-returns-2
 unfolding discOnFace
 returns-2 c =
     let t1 = simp (c .before .before .before .before .on-span .ensures, c .before .before .before .before .before .along .ensures) at (c .before .before .before .if1 .taken) in
-    let t2 = simp (c .before .in-sector .ensures, c .before .before .turned-round .ensures, c .before .before .before .before .on-span .ensures, c .before .before .before .before .before .along .ensures) at (c .if2 .left) in
-    simp (t1, t2, c .before .in-sector .ensures, c .before .before .turned-round .ensures, c .before .before .before .before .on-span .ensures, c .before .before .before .before .before .along .ensures)
+    let t2 = simp (c .before .in-sector .ensures, c .before .before .turned-round .ensures) at (c .if2 .left) in
+    simp (t1, t2)
 
 returns-3 : tie.Need-returns-3
 unfolding discOnFace
 returns-3 c =
     let t1 = simp (c .before .on-span .ensures, c .before .before .along .ensures) at (c .if1 .left) in
-    simp (t1, c .before .on-span .ensures, c .before .before .along .ensures)
+    simp (t1)
 
 pub disc-on-face-spec : {M : Type 1} → statement M
 disc-on-face-spec =

@@ -28,7 +28,7 @@ returns : tie.Need-returns
 unfolding inSector
 returns c =
     let t1 = simp (c .before .before .before .before .before .cross .ensures, c .before .before .before .before .before .before .vector2 .ensures, c .before .before .before .before .before .before .before .vector .ensures) at (c .before .before .before .before .if1 .taken) in
-    simp (t1, c .dot2 .ensures, c .before .dot .ensures, c .before .before .cross3 .ensures, c .before .before .before .cross2 .ensures, c .before .before .before .before .before .cross .ensures, c .before .before .before .before .before .before .vector2 .ensures, c .before .before .before .before .before .before .before .vector .ensures)
+    simp (t1, c .dot2 .ensures, c .before .dot .ensures, c .before .before .cross3 .ensures, c .before .before .before .cross2 .ensures, c .before .before .before .before .before .before .vector2 .ensures, c .before .before .before .before .before .before .before .vector .ensures)
 
 cross-requires-4 : tie.Need-cross-requires-4
 cross-requires-4 c κs = search needs
@@ -41,7 +41,7 @@ unfolding inSector
 returns-2 c =
     let t1 = simp (c .before .before .before .before .cross .ensures, c .before .before .before .before .before .vector2 .ensures, c .before .before .before .before .before .before .vector .ensures) at (c .before .before .before .if1 .left) in
     let t2 = simp (c .before .before .before .before .cross .ensures, c .before .before .before .before .before .vector2 .ensures, c .before .before .before .before .before .before .vector .ensures) at (c .before .before .if2 .taken) in
-    simp (t1, t2, c .cross5 .ensures, c .before .cross4 .ensures, c .before .before .before .before .cross .ensures, c .before .before .before .before .before .vector2 .ensures, c .before .before .before .before .before .before .vector .ensures)
+    simp (t1, t2, c .cross5 .ensures, c .before .cross4 .ensures, c .before .before .before .before .before .vector2 .ensures, c .before .before .before .before .before .before .vector .ensures)
 
 dot-requires-3 : tie.Need-dot-requires-3
 dot-requires-3 c κs = search needs
@@ -54,16 +54,16 @@ unfolding inSector
 returns-3 c =
     let t1 = simp (c .before .before .before .before .before .cross .ensures, c .before .before .before .before .before .before .vector2 .ensures, c .before .before .before .before .before .before .before .vector .ensures) at (c .before .before .before .before .if1 .left) in
     let t2 = simp (c .before .before .before .before .before .cross .ensures, c .before .before .before .before .before .before .vector2 .ensures, c .before .before .before .before .before .before .before .vector .ensures) at (c .before .before .before .if2 .left) in
-    let t3 = simp (c .before .before .dot3 .ensures, c .before .before .before .before .before .cross .ensures, c .before .before .before .before .before .before .vector2 .ensures, c .before .before .before .before .before .before .before .vector .ensures) at (c .before .if3 .taken) in
-    simp (t1, t2, t3, c .cross6 .ensures, c .before .before .dot3 .ensures, c .before .before .before .before .before .cross .ensures, c .before .before .before .before .before .before .vector2 .ensures, c .before .before .before .before .before .before .before .vector .ensures)
+    let t3 = simp (c .before .before .dot3 .ensures, c .before .before .before .before .before .before .vector2 .ensures, c .before .before .before .before .before .before .before .vector .ensures) at (c .before .if3 .taken) in
+    simp (t1, t2, t3, c .cross6 .ensures, c .before .before .before .before .before .before .before .vector .ensures)
 
 returns-4 : tie.Need-returns-4
 unfolding inSector
 returns-4 c =
     let t1 = simp (c .before .before .before .before .cross .ensures, c .before .before .before .before .before .vector2 .ensures, c .before .before .before .before .before .before .vector .ensures) at (c .before .before .before .if1 .left) in
     let t2 = simp (c .before .before .before .before .cross .ensures, c .before .before .before .before .before .vector2 .ensures, c .before .before .before .before .before .before .vector .ensures) at (c .before .before .if2 .left) in
-    let t3 = simp (c .before .dot3 .ensures, c .before .before .before .before .cross .ensures, c .before .before .before .before .before .vector2 .ensures, c .before .before .before .before .before .before .vector .ensures) at (c .if3 .left) in
-    simp (t1, t2, t3, c .before .dot3 .ensures, c .before .before .before .before .cross .ensures, c .before .before .before .before .before .vector2 .ensures, c .before .before .before .before .before .before .vector .ensures)
+    let t3 = simp (c .before .dot3 .ensures, c .before .before .before .before .before .vector2 .ensures, c .before .before .before .before .before .before .vector .ensures) at (c .if3 .left) in
+    simp (t1, t2, t3)
 
 pub in-sector-spec : {M : Type 1} → statement M
 in-sector-spec =

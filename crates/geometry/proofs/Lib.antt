@@ -1,0 +1,2 @@
+pub mod Sectors
+pub mod Worked
