@@ -1,17 +1,19 @@
 // Functions for a caller in Rust or C, on plain numbers: for the comparisons in oracle/ and bench/.
 // Where an answer has several floats, `n` says which is wanted: 0 is 1.0 where there is an answer and 0.0 where there is none, then the floats in the order of the fields.
 ghost use mathlib.Core.Path.{_≡_};
-ghost use mathlib.Core.Bool.{cond};
 ghost use Rattle.ieee.specs.Root.{rootOf};
-ghost use Rattle.geometry.specs.Geometry.{dirOf, halfwayOf};
+ghost use Rattle.geometry.specs.Geometry.{dirOf, halfwayOf, drawnOf};
 ghost use Rattle.geometry.specs.Signed.{inSector, discOnFace, discOnDisc, centerOnFace};
-ghost use Rattle.exports.specs.Fields.{pointAt, dirAt, discAt, faceAt, ofTwo, ofFive, dirField, proximityField};
+ghost use Rattle.exports.specs.Fields.{pointAt, dirAt, discAt, faceAt, ofTwo, ofFive, dirField, proximityField, drawnField, meetingField, arcAt, proximityAt};
 use geometry::Dir;
+use geometry::Drawn;
 use geometry::MaybeDir;
 use geometry::Point;
+use geometry::Seg;
 use geometry::signed::Disc;
 use geometry::signed::Face;
 use geometry::signed::MaybeProximity;
+use geometry::signed::Proximity;
 use ieee::num::choose;
 
 fn of_two(n: u64, x: f64, y: f64) -> f64
@@ -54,6 +56,41 @@ fn proximity_field(found: MaybeProximity, n: u64) -> f64
         }
         MaybeProximity::NoProximity => 0.0,
     }
+}
+
+// Coordinate n of the eight points that an arc is drawn through.
+fn drawn_field(drawn: Drawn, n: u64) -> f64
+    ensures { λ r. ⌜ r ≡ drawnField drawn n ⌝ }
+{
+    let i = (n / 2 % 8) as usize;
+    let p = drawn.points[i];
+    choose(n % 2 == 0, p.x, p.y)
+}
+
+// Of a meeting turned round the gap, the normal and the point, by 1 to 5; of its surface points, A's by 6 and 7, B's by 8 and 9.
+fn meeting_field(p: Proximity, n: u64) -> f64
+    ensures { λ r. ⌜ r ≡ meetingField p n ⌝ }
+{
+    let back = p.reversed();
+    let a = p.on_a();
+    let b = p.on_b();
+    choose(
+        n == 6,
+        a.x,
+        choose(
+            n == 7,
+            a.y,
+            choose(
+                n == 8,
+                b.x,
+                choose(
+                    n == 9,
+                    b.y,
+                    proximity_field(MaybeProximity::SomeProximity(back), n),
+                ),
+            ),
+        ),
+    )
 }
 
 fn disc_at(cx: f64, cy: f64, r: f64, fx: f64, fy: f64, tx: f64, ty: f64) -> Disc
@@ -183,4 +220,35 @@ pub extern "C" fn sewqirun_center_on_face(
         geometry::signed::center_on_face(center, face_at(ax, ay, bx, by, nx, ny)),
         n,
     )
+}
+
+#[no_mangle]
+pub extern "C" fn sewqirun_drawn(
+    n: u64,
+    cx: f64,
+    cy: f64,
+    r: f64,
+    fx: f64,
+    fy: f64,
+    tx: f64,
+    ty: f64,
+) -> f64
+    ensures { λ p. ⌜ p ≡ drawnField (drawnOf (arcAt cx cy r fx fy tx ty)) n ⌝ }
+{
+    let arc = Seg::Arc {
+        c: Point { x: cx, y: cy },
+        r,
+        from: Dir { x: fx, y: fy },
+        to: Dir { x: tx, y: ty },
+    };
+    drawn_field(arc.drawn(), n)
+}
+
+#[no_mangle]
+pub extern "C" fn sewqirun_meeting(n: u64, gap: f64, nx: f64, ny: f64, px: f64, py: f64) -> f64
+    ensures { λ p. ⌜ p ≡ meetingField (proximityAt gap nx ny px py) n ⌝ }
+{
+    let normal = Dir { x: nx, y: ny };
+    let point = Point { x: px, y: py };
+    meeting_field(Proximity { gap, normal, point }, n)
 }

@@ -1,5 +1,6 @@
 // Replays calls of the geometry from standard input, a line each: a letter, then its floats, each a comma and sixteen hexadecimal digits.
 // Prints a line for each call: the floats of the answer, or a hyphen where there is none.
+// The files stdin and stdout beside this program were made by `oracle/geometry store 500 1`: the calls are chosen there, and the answers are the Rust's.
 //   D x y             Dir::new
 //   S u from to       in_sector: 1 or 0
 //   A c r from to     Seg::drawn of an arc, then its start and its end
