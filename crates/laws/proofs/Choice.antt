@@ -25,6 +25,18 @@ both true true e = (refl, refl)
 both true false e = absurd (false≢true e)
 both false q e = absurd (false≢true e)
 
+pub neither : (p q : Bool) → (p || q) ≡ false → (p ≡ false) × (q ≡ false)
+neither true q e = absurd (false≢true (sym e))
+neither false q e = (refl, e)
+
+pub not-yes : (b : Bool) → not b ≡ true → b ≡ false
+not-yes true e = absurd (false≢true e)
+not-yes false e = refl
+
+pub not-no : (b : Bool) → not b ≡ false → b ≡ true
+not-no true e = refl
+not-no false e = absurd (false≢true (sym e))
+
 -- ---- a test as a statement
 pub holds : {b : Bool} → b ≡ true → T b
 holds e = subst T (sym e) tt

@@ -7,8 +7,8 @@ use mathlib.Core.Bool.{Bool, true, false, _&&_, cond}
 use mathlib.Core.List.{List, [], _∷_, List·Memᴰ, List·Memᴰ·head, List·Memᴰ·tail}
 use lib.Dec.{T}
 use lib.ListN.{length, length-append}
-use Rattle.laws.specs.Loops.{anyIn, filterIn, joinIn, keep, Rising}
-use Rattle.laws.proofs.Choice.{or-cases, or-l, or-r}
+use Rattle.laws.specs.Loops.{anyIn, filterIn, joinIn, firstIn, keep, Rising}
+use Rattle.laws.proofs.Choice.{is-false, or-cases, or-l, or-r}
 
 -- ---- one of some indexes
 module _ (p : ℕ → Bool) where
@@ -27,6 +27,10 @@ module _ (p : ℕ → Bool) where
       (λ (q : T (p s)). (s, native.Mathlib.Nat.le-refl s, omega arith, q))
       (λ (q : T (anyIn p k (suc s))). let r = any-ex k (suc s) q in (r .0, omega (arith, r .1), omega (arith, r .2), r .3))
       (or-cases (p s) (anyIn p k (suc s)) t)
+
+  -- where none passes, each fails
+  pub any-none : (k s j : ℕ) → anyIn p k s ≡ false → s ≤ j → j < s + k → p j ≡ false
+  any-none k s j e h l = is-false (p j) (λ t. subst T e (any-of k s j h l t))
 
   -- ---- a list of the indexes that pass
   pub filter-length : (k s : ℕ) → length (filterIn p k s) ≤ k
@@ -97,3 +101,17 @@ filter-rising p (suc k) s = go (p s) (filter-rising p k (suc s))
     go : (b : Bool) → Rising (suc s) (filterIn p k (suc s)) → Rising s (cond b (s ∷ filterIn p k (suc s)) (filterIn p k (suc s)))
     go true r = (native.Mathlib.Nat.le-refl s, r)
     go false r = rising-from s (suc s) (omega arith) (filterIn p k (suc s)) r
+
+-- where the first that is not none is none, each is none
+pub first-none : {A : Type 0} (isNone : A → Bool) (none : A) (f : ℕ → A) (k s : ℕ) → isNone (firstIn isNone none f k s) ≡ true → (j : ℕ) → s ≤ j → j < s + k → isNone (f j) ≡ true
+unfolding firstIn
+first-none isNone none f zero s e j h l = absurd (omega arith)
+first-none isNone none f (suc k) s e j h l = go (isNone (f s)) refl e (first-none isNone none f k (suc s))
+  where
+    go : (b : Bool) → isNone (f s) ≡ b → isNone (cond b (firstIn isNone none f k (suc s)) (f s)) ≡ true
+        → (isNone (firstIn isNone none f k (suc s)) ≡ true → (i : ℕ) → suc s ≤ i → i < suc s + k → isNone (f i) ≡ true) → isNone (f j) ≡ true
+    go true q g ih = ⊎-elim
+        (λ (r : s ≡ j). ap (λ (i : ℕ). isNone (f i)) (sym r) ∙ q)
+        (λ (r : s < j). ih g j r (omega arith))
+        (native.Mathlib.Nat.eq-or-lt-of-le h)
+    go false q g ih = absurd (mathlib.Core.Bool.false≢true (sym q ∙ g))
