@@ -14,6 +14,12 @@ pub no-and : (a : Bool) {b : Bool} → b ≡ false → (a && b) ≡ false
 no-and true e = e
 no-and false e = refl
 
+pub or-yes : {a : Bool} (b : Bool) → a ≡ true → (a || b) ≡ true
+or-yes b e = ap (λ (x : Bool). x || b) e
+
+pub or-no : {a : Bool} (b : Bool) → a ≡ false → (a || b) ≡ b
+or-no b e = ap (λ (x : Bool). x || b) e
+
 pub cond-yes : {A : Type 0} {b : Bool} (x y : A) → b ≡ true → cond b x y ≡ x
 cond-yes x y e = ap (λ (t : Bool). cond t x y) e
 

@@ -1,0 +1,123 @@
+-- Checks one after the other, and what a description that passes them is known to be. Assumes nothing.
+use mathlib.Core.Path.{_≡_, refl, sym, ap, _∙_}
+use mathlib.Core.Bool.{Bool, true, false, false≢true, not, _||_}
+use Prim.Native.Nat.{ℕ, _+_, _<_, _≤_}
+use native.Mathlib.Omega.{arith}
+use lib.Dec.{ltb}
+use borrow.Author.Tests.{ltb-false}
+use Rattle.laws.proofs.Choice.{neither, not-yes, not-no}
+use Rattle.laws.proofs.Finite.{any-none}
+use Rattle.laws.proofs.Sums.{sum-more, sum-mono}
+use Rattle.mechanism.specs.Description.{pairAt, segsOf, startOfPart, sideLength}
+use Rattle.mechanism.specs.Check.{isAccepted, andThen, refusedIf, sideOver, pairOver, partsOver, pairsOver, limitPassed, bodiesChecked, directionMissing, partsChecked, pairsChecked, checkOf, FewParts, FewPairs, Few}
+use Rattle.mechanism.specs.declared.Parts.{Parts}
+use Rattle.mechanism.specs.declared.Pairs.{Pairs}
+use Rattle.mechanism.specs.declared.Mechanism.{Mechanism}
+use Rattle.mechanism.specs.declared.Problem.{Problem}
+use Rattle.mechanism.specs.declared.Problem.the-variants.{LimitPassed, NoDirection}
+use Rattle.mechanism.specs.declared.Checked.{Checked}
+use Rattle.mechanism.specs.declared.Checked.the-variants.{Accepted, Refused}
+
+-- ---- one check after the other
+pub stops : (c next : Checked) → isAccepted c ≡ false → andThen c next ≡ c
+stops Accepted next e = absurd (false≢true (sym e))
+stops (Refused p) next e = refl
+
+pub goes-on : (c next : Checked) → isAccepted c ≡ true → andThen c next ≡ next
+goes-on Accepted next e = refl
+goes-on (Refused p) next e = absurd (false≢true e)
+
+pub stops-if : {b : Bool} (p : Problem) (next : Checked) → b ≡ true → andThen (refusedIf b p) next ≡ Refused p
+stops-if p next e = ap (λ (b : Bool). andThen (refusedIf b p) next) e
+
+pub goes-on-if : {b : Bool} (p : Problem) (next : Checked) → b ≡ false → andThen (refusedIf b p) next ≡ next
+goes-on-if p next e = ap (λ (b : Bool). andThen (refusedIf b p) next) e
+
+-- ---- no limit is passed
+few-parts : (p : Parts) → partsOver p ≡ false → FewParts p
+unfolding partsOver
+few-parts p e =
+    let a = neither (ltb 32 (p .count)) _ e in
+    let b = neither _ (ltb 384 (startOfPart p (p .count))) (a .1) in
+    let total : startOfPart p (p .count) ≤ 384 = ltb-false 384 (startOfPart p (p .count)) (b .1) in
+    record {
+      count = ltb-false 32 (p .count) (a .0);
+      each = λ i h. ltb-false 48 (segsOf p i) (any-none (λ k. ltb 48 (segsOf p k)) (p .count) 0 i (b .0) (omega arith) (omega arith));
+      all = λ i h. within i h total;
+      total = total;
+    }
+  where
+    within : (i : ℕ) → i < p .count → startOfPart p (p .count) ≤ 384 → startOfPart p i + segsOf p i ≤ 384
+    within i h t = let m = sum-more (segsOf p) i in let l = sum-mono (segsOf p) (i + 1) (p .count) (omega arith) in omega arith
+
+few-pairs : (p : Pairs) → pairsOver p ≡ false → FewPairs p
+unfolding pairsOver
+few-pairs p e =
+    let a = neither (ltb 16 (p .count)) _ e in
+    record {
+      count = ltb-false 16 (p .count) (a .0);
+      a = λ i h. ltb-false 4 (pairAt p i .a .count) (neither _ (ltb 12 (sideLength (pairAt p i .a))) (neither _ (sideOver (pairAt p i .b)) (each (a .1) i h) .0) .0);
+      b = λ i h. ltb-false 4 (pairAt p i .b .count) (neither _ (ltb 12 (sideLength (pairAt p i .b))) (neither (sideOver (pairAt p i .a)) _ (each (a .1) i h) .1) .0);
+    }
+  where
+    each : Rattle.laws.specs.Loops.anyIn (λ k. pairOver (pairAt p k)) (p .count) 0 ≡ false → (i : ℕ) → i < p .count → pairOver (pairAt p i) ≡ false
+    each g i h = any-none (λ k. pairOver (pairAt p k)) (p .count) 0 i g (omega arith) (omega arith)
+
+pub few : (m : Mechanism) → limitPassed m ≡ false → Few m
+unfolding limitPassed
+few m e =
+    let a = neither (ltb 15 (m .bodies .count) || ltb 16 (m .bodies .coords)) _ e in
+    let b = neither (ltb 15 (m .bodies .count)) (ltb 16 (m .bodies .coords)) (a .0) in
+    let c = neither (partsOver (m .parts)) (pairsOver (m .pairs)) (a .1) in
+    record {
+      bodies = ltb-false 15 (m .bodies .count) (b .0);
+      coords = ltb-false 16 (m .bodies .coords) (b .1);
+      parts = few-parts (m .parts) (c .0);
+      pairs = few-pairs (m .pairs) (c .1);
+    }
+
+-- ---- where the check of a description ends
+module _ (m : Mechanism) where
+  abbrev fromParts : Checked
+  fromParts = andThen (partsChecked (m .bodies .count) (m .parts) (m .outlines)) (pairsChecked (m .parts) (m .pairs))
+
+  abbrev fromDirections : Checked
+  fromDirections = andThen (refusedIf (directionMissing m) NoDirection) fromParts
+
+  abbrev fromBodies : Checked
+  fromBodies = andThen (bodiesChecked (m .bodies)) fromDirections
+
+  pub at-limits : limitPassed m ≡ true → checkOf m ≡ Refused LimitPassed
+  unfolding checkOf
+  at-limits e = stops-if LimitPassed fromBodies e
+
+  past-limits : limitPassed m ≡ false → checkOf m ≡ fromBodies
+  unfolding checkOf
+  past-limits e = goes-on-if LimitPassed fromBodies e
+
+  pub at-bodies : limitPassed m ≡ false → isAccepted (bodiesChecked (m .bodies)) ≡ false → checkOf m ≡ bodiesChecked (m .bodies)
+  at-bodies e f = past-limits e ∙ stops (bodiesChecked (m .bodies)) fromDirections f
+
+  past-bodies : limitPassed m ≡ false → isAccepted (bodiesChecked (m .bodies)) ≡ true → checkOf m ≡ fromDirections
+  past-bodies e f = past-limits e ∙ goes-on (bodiesChecked (m .bodies)) fromDirections f
+
+  pub at-directions : limitPassed m ≡ false → isAccepted (bodiesChecked (m .bodies)) ≡ true → directionMissing m ≡ true → checkOf m ≡ Refused NoDirection
+  at-directions e f g = past-bodies e f ∙ stops-if NoDirection fromParts g
+
+  past-directions : limitPassed m ≡ false → isAccepted (bodiesChecked (m .bodies)) ≡ true → directionMissing m ≡ false → checkOf m ≡ fromParts
+  past-directions e f g = past-bodies e f ∙ goes-on-if NoDirection fromParts g
+
+  pub at-parts : limitPassed m ≡ false → isAccepted (bodiesChecked (m .bodies)) ≡ true → directionMissing m ≡ false
+      → isAccepted (partsChecked (m .bodies .count) (m .parts) (m .outlines)) ≡ false → checkOf m ≡ partsChecked (m .bodies .count) (m .parts) (m .outlines)
+  at-parts e f g h = past-directions e f g ∙ stops (partsChecked (m .bodies .count) (m .parts) (m .outlines)) (pairsChecked (m .parts) (m .pairs)) h
+
+  pub at-pairs : limitPassed m ≡ false → isAccepted (bodiesChecked (m .bodies)) ≡ true → directionMissing m ≡ false
+      → isAccepted (partsChecked (m .bodies .count) (m .parts) (m .outlines)) ≡ true → checkOf m ≡ pairsChecked (m .parts) (m .pairs)
+  at-pairs e f g h = past-directions e f g ∙ goes-on (partsChecked (m .bodies .count) (m .parts) (m .outlines)) (pairsChecked (m .parts) (m .pairs)) h
+
+-- an answer that equals one of these checks, refused or accepted
+pub is-no : {r c : Checked} {b : Bool} → r ≡ c → b ≡ not (isAccepted r) → b ≡ true → isAccepted c ≡ false
+is-no {r} e f t = ap isAccepted (sym e) ∙ not-yes (isAccepted r) (sym f ∙ t)
+
+pub is-yes : {r c : Checked} {b : Bool} → r ≡ c → b ≡ not (isAccepted r) → b ≡ false → isAccepted c ≡ true
+is-yes {r} e f t = ap isAccepted (sym e) ∙ not-no (isAccepted r) (sym f ∙ t)

@@ -1,0 +1,240 @@
+-- Document 01, "Refused, first that applies": the refusals 3 to 10 of a description as a value. Definitions only.
+use Prim.Native.Nat.{ℕ, _+_, _%_, _<_, _≤_}
+use mathlib.Core.Bool.{Bool, true, false, not, cond, _&&_, _||_}
+use lib.Dec.{ltb, leb, eqb}
+use lib.Ieee.{isNan}
+use Rattle.laws.specs.Loops.{anyIn, foldIn, firstIn}
+use Rattle.ieee.specs.Num.{finite, sameOf}
+use Rattle.geometry.specs.Geometry.{dirOf, startOf, endOf}
+use Rattle.geometry.specs.declared.Point.{Point}
+use Rattle.geometry.specs.declared.Dir.{Dir}
+use Rattle.geometry.specs.declared.MaybeDir.{MaybeDir}
+use Rattle.geometry.specs.declared.MaybeDir.the-variants.{SomeDir, NoDir}
+use Rattle.geometry.specs.declared.Seg.{Seg}
+use Rattle.geometry.specs.declared.Seg.the-variants.{Line, Arc}
+use Rattle.mechanism.specs.Description.{bodyAt, partAt, pairAt, rangeAt, segAt, segsOf, startOfPart, silhouetteLength, sideLength}
+use Rattle.mechanism.specs.declared.Body.{Body}
+use Rattle.mechanism.specs.declared.Joint.{Joint}
+use Rattle.mechanism.specs.declared.Joint.the-variants.{Ground, Revolute, Prismatic}
+use Rattle.mechanism.specs.declared.Bodies.{Bodies}
+use Rattle.mechanism.specs.declared.Parts.{Parts}
+use Rattle.mechanism.specs.declared.Outlines.{Outlines}
+use Rattle.mechanism.specs.declared.Pairs.{Pairs}
+use Rattle.mechanism.specs.declared.Mechanism.{Mechanism}
+use Rattle.mechanism.specs.declared.part.Part.{Part}
+use Rattle.mechanism.specs.declared.part.Sweep.{Sweep}
+use Rattle.mechanism.specs.declared.part.Sweep.the-variants.{Extruded, Revolved, Milled, Oval}
+use Rattle.mechanism.specs.declared.part.SurfaceRef.{SurfaceRef}
+use Rattle.mechanism.specs.declared.pair.Surface.{Surface}
+use Rattle.mechanism.specs.declared.pair.ContactPair.{ContactPair}
+use Rattle.mechanism.specs.declared.Problem.{Problem}
+use Rattle.mechanism.specs.declared.Problem.the-variants.{TextTooLong, LineNotRead, LimitPassed, BodyNotPlaced, NoDirection, PartOnNoSuchBody, OutlineNotClosed, RangeNotDrawn, SideOnTwoBodies, PairOnOneBody, PoseNotMatching, NoSuchThing, TooFewRows}
+use Rattle.mechanism.specs.declared.Checked.{Checked}
+use Rattle.mechanism.specs.declared.Checked.the-variants.{Accepted, Refused}
+use Rattle.mechanism.specs.declared.check.Side.{Side}
+use Rattle.mechanism.specs.declared.check.Side.the-variants.{Unknown, On, Wrong}
+
+-- ---- document 01's number and place of each refusal
+abbrev pub numberOf : Problem → ℕ
+numberOf TextTooLong = 1
+numberOf (LineNotRead l) = 2
+numberOf LimitPassed = 3
+numberOf (BodyNotPlaced b) = 4
+numberOf NoDirection = 5
+numberOf (PartOnNoSuchBody p) = 6
+numberOf (OutlineNotClosed p) = 7
+numberOf (RangeNotDrawn p) = 8
+numberOf (SideOnTwoBodies p) = 9
+numberOf (PairOnOneBody p) = 10
+numberOf PoseNotMatching = 11
+numberOf NoSuchThing = 12
+numberOf TooFewRows = 13
+
+-- 0 where none is named
+abbrev pub placeOf : Problem → ℕ
+placeOf TextTooLong = 0
+placeOf (LineNotRead l) = l
+placeOf LimitPassed = 0
+placeOf (BodyNotPlaced b) = b
+placeOf NoDirection = 0
+placeOf (PartOnNoSuchBody p) = p
+placeOf (OutlineNotClosed p) = p
+placeOf (RangeNotDrawn p) = p
+placeOf (SideOnTwoBodies p) = p
+placeOf (PairOnOneBody p) = p
+placeOf PoseNotMatching = 0
+placeOf NoSuchThing = 0
+placeOf TooFewRows = 0
+
+-- ---- the first refusal that applies
+abbrev pub isAccepted : Checked → Bool
+isAccepted Accepted = true
+isAccepted (Refused p) = false
+
+-- where the first check accepts, the next one is asked
+abbrev pub andThen : Checked → Checked → Checked
+andThen Accepted next = next
+andThen (Refused p) next = Refused p
+
+-- a test that refuses
+abbrev pub refusedIf : Bool → Problem → Checked
+refusedIf b p = cond b (Refused p) Accepted
+
+-- the first of the k checks from j on that refuses
+abbrev pub firstRefused : (ℕ → Checked) → ℕ → ℕ → Checked
+firstRefused f k j = firstIn isAccepted Accepted f k j
+
+-- ---- 3: a count passes its limit
+abbrev pub sideOver : Surface → Bool
+sideOver u = ltb 4 (u .count) || ltb 12 (sideLength u)
+
+abbrev pub pairOver : ContactPair → Bool
+pairOver p = sideOver (p .a) || sideOver (p .b)
+
+unfoldable pub partsOver : Parts → Bool
+partsOver p = ltb 32 (p .count) || (anyIn (λ i. ltb 48 (segsOf p i)) (p .count) 0 || ltb 384 (startOfPart p (p .count)))
+
+unfoldable pub pairsOver : Pairs → Bool
+pairsOver p = ltb 16 (p .count) || anyIn (λ i. pairOver (pairAt p i)) (p .count) 0
+
+unfoldable pub limitPassed : Mechanism → Bool
+limitPassed m = (ltb 15 (m .bodies .count) || ltb 16 (m .bodies .coords)) || (partsOver (m .parts) || pairsOver (m .pairs))
+
+-- ---- 4: a body's parent is not below it, or its coordinate is not below the count
+abbrev pub coordBelow : ℕ → Joint → Bool
+coordBelow n Ground = true
+coordBelow n (Revolute p c) = ltb c n
+coordBelow n (Prismatic o a c) = ltb c n
+
+-- body i + 1
+abbrev pub misplaced : ℕ → Body → ℕ → Bool
+misplaced coords b i = not (leb (b .parent) i && coordBelow coords (b .joint))
+
+unfoldable pub bodiesChecked : Bodies → Checked
+bodiesChecked b = firstRefused (λ i. refusedIf (misplaced (b .coords) (bodyAt b i) i) (BodyNotPlaced (i + 1))) (b .count) 0
+
+-- ---- 5: an axis or an arc's direction has no `Dir::new`, or a revolved axis is NaN
+abbrev pub hasNone : MaybeDir → Bool
+hasNone (SomeDir d) = false
+hasNone NoDir = true
+
+abbrev pub noDir : Dir → Bool
+noDir d = hasNone (dirOf (d .x) (d .y))
+
+abbrev pub jointLacks : Joint → Bool
+jointLacks Ground = false
+jointLacks (Revolute p c) = false
+jointLacks (Prismatic o a c) = noDir a
+
+abbrev pub sweepLacks : Sweep → Bool
+sweepLacks (Extruded w a) = false
+sweepLacks (Revolved x) = isNan x
+sweepLacks (Milled w) = false
+sweepLacks (Oval w) = false
+
+abbrev pub segLacks : Seg → Bool
+segLacks (Line a b) = false
+segLacks (Arc c r from to) = noDir from || noDir to
+
+unfoldable pub bodiesLack : Bodies → Bool
+bodiesLack b = anyIn (λ i. jointLacks (bodyAt b i .joint)) (b .count) 0
+
+unfoldable pub partsLack : Parts → Bool
+partsLack p = anyIn (λ i. sweepLacks (partAt p i .sweep)) (p .count) 0
+
+unfoldable pub outlinesLack : Outlines → ℕ → Bool
+outlinesLack o n = anyIn (λ i. segLacks (segAt o i)) n 0
+
+abbrev pub directionMissing : Mechanism → Bool
+directionMissing m = bodiesLack (m .bodies) || (partsLack (m .parts) || outlinesLack (m .outlines) (startOfPart (m .parts) (m .parts .count)))
+
+-- ---- 6 and 7, part by part: a part names no body; its outline is not finite or not closed
+abbrev pub pointFinite : Point → Bool
+pointFinite p = finite (p .x) && finite (p .y)
+
+abbrev pub samePoint : Point → Point → Bool
+samePoint p q = sameOf (p .x) (q .x) && sameOf (p .y) (q .y)
+
+-- a segment is not finite, or does not end where the next begins, bit for bit
+abbrev pub segOpen : Seg → Seg → Bool
+segOpen s next = not ((pointFinite (startOf s) && pointFinite (endOf s)) && samePoint (endOf s) (startOf next))
+
+-- of the n segments from `at` on there are fewer than two, or one is not finite or not joined to the next
+unfoldable pub outlineOpen : Outlines → ℕ → ℕ → Bool
+outlineOpen o at n = ltb n 2 || anyIn (λ i. segOpen (segAt o (at + i)) (segAt o (at + (i + 1) % n))) n 0
+
+abbrev pub partChecked : ℕ → Outlines → Part → ℕ → ℕ → Checked
+partChecked bodies o p at i =
+    andThen (refusedIf (ltb bodies (p .body)) (PartOnNoSuchBody i))
+    (refusedIf (outlineOpen o at (p .segs)) (OutlineNotClosed i))
+
+unfoldable pub partsChecked : ℕ → Parts → Outlines → Checked
+partsChecked bodies p o = firstRefused (λ i. partChecked bodies o (partAt p i) (startOfPart p i) i) (p .count) 0
+
+-- ---- 8 to 10, pair by pair: side A's ranges one by one, 8 then 9 for each, side B's, then 10
+abbrev pub rangeDrawn : Parts → SurfaceRef → Bool
+rangeDrawn ps r = ltb (r .part) (ps .count) && (ltb (r .start) (r .end) && leb (r .end) (silhouetteLength (partAt ps (r .part) .sweep) (segsOf ps (r .part))))
+
+-- the body of a part, of those that there are
+abbrev pub bodyOfPart : Parts → ℕ → ℕ
+bodyOfPart ps i = cond (ltb i (ps .count)) (partAt ps i .body) 0
+
+-- the side's body so far, and one range more
+abbrev pub withBody : ℕ → Side → ℕ → Side
+withBody pair Unknown b = On b
+withBody pair (On a) b = cond (eqb a b) (On a) (Wrong (SideOnTwoBodies pair))
+withBody pair (Wrong p) b = Wrong p
+
+abbrev pub isWrong : Side → Bool
+isWrong Unknown = false
+isWrong (On b) = false
+isWrong (Wrong p) = true
+
+abbrev pub withRange : Parts → ℕ → Side → SurfaceRef → Side
+withRange ps pair s r = cond (isWrong s) s (cond (rangeDrawn ps r) (withBody pair s (bodyOfPart ps (r .part))) (Wrong (RangeNotDrawn pair)))
+
+-- a side without ranges is not drawn
+abbrev pub sideEnd : ℕ → Side → Side
+sideEnd pair Unknown = Wrong (RangeNotDrawn pair)
+sideEnd pair (On b) = On b
+sideEnd pair (Wrong p) = Wrong p
+
+unfoldable pub sideBody : Parts → ℕ → Surface → Side
+sideBody ps pair u = sideEnd pair (foldIn (λ s i. withRange ps pair s (rangeAt u i)) Unknown (u .count) 0)
+
+abbrev pub sidesChecked : ℕ → Side → Side → Checked
+sidesChecked pair Unknown b = Accepted
+sidesChecked pair (Wrong p) b = Refused p
+sidesChecked pair (On a) Unknown = Accepted
+sidesChecked pair (On a) (Wrong p) = Refused p
+sidesChecked pair (On a) (On b) = refusedIf (eqb a b) (PairOnOneBody pair)
+
+unfoldable pub pairsChecked : Parts → Pairs → Checked
+pairsChecked ps pairs = firstRefused (λ i. sidesChecked i (sideBody ps i (pairAt pairs i .a)) (sideBody ps i (pairAt pairs i .b))) (pairs .count) 0
+
+-- ---- the whole: accepted means not refused
+unfoldable pub checkOf : Mechanism → Checked
+checkOf m =
+    andThen (refusedIf (limitPassed m) LimitPassed)
+    (andThen (bodiesChecked (m .bodies))
+    (andThen (refusedIf (directionMissing m) NoDirection)
+    (andThen (partsChecked (m .bodies .count) (m .parts) (m .outlines))
+    (pairsChecked (m .parts) (m .pairs)))))
+
+-- ---- what is left where no limit is passed
+pub record FewParts (p : Parts) : Type 0 where
+  pub count : p .count ≤ 32
+  pub each : (i : ℕ) → i < p .count → segsOf p i ≤ 48
+  pub all : (i : ℕ) → i < p .count → startOfPart p i + segsOf p i ≤ 384
+  pub total : startOfPart p (p .count) ≤ 384
+
+pub record FewPairs (p : Pairs) : Type 0 where
+  pub count : p .count ≤ 16
+  pub a : (i : ℕ) → i < p .count → pairAt p i .a .count ≤ 4
+  pub b : (i : ℕ) → i < p .count → pairAt p i .b .count ≤ 4
+
+pub record Few (m : Mechanism) : Type 0 where
+  pub bodies : m .bodies .count ≤ 15
+  pub coords : m .bodies .coords ≤ 16
+  pub parts : FewParts (m .parts)
+  pub pairs : FewPairs (m .pairs)

@@ -1,0 +1,614 @@
+// The refusals of a description as a value (document 01, "Refused, first that applies", 3 to 10).
+ghost use mathlib.Core.Path.{_≡_};
+ghost use mathlib.Core.Bool.{not};
+ghost use Prim.Native.Nat.{_+_, _≤_, _<_};
+ghost use Rattle.mechanism.specs.Description.{startOfPart, silhouetteLength, rangeLength, turnedLength};
+ghost use Rattle.mechanism.specs.Check.{numberOf, placeOf, isAccepted, sideOver, pairOver, partsOver, pairsOver, limitPassed, coordBelow, misplaced, bodiesChecked, noDir, jointLacks, sweepLacks, segLacks, bodiesLack, partsLack, outlinesLack, directionMissing, pointFinite, samePoint, segOpen, outlineOpen, partChecked, partsChecked, rangeDrawn, bodyOfPart, isWrong, withBody, withRange, sideEnd, sideBody, sidesChecked, pairsChecked, checkOf, FewParts, FewPairs, Few};
+use super::Bodies;
+use super::Body;
+use super::Checked;
+use super::Joint;
+use super::Mechanism;
+use super::Outlines;
+use super::Pairs;
+use super::Parts;
+use super::Problem;
+use super::pair::ContactPair;
+use super::pair::Surface;
+use super::part::Part;
+use super::part::SurfaceRef;
+use super::part::Sweep;
+use geometry::Dir;
+use geometry::MaybeDir;
+use geometry::Point;
+use geometry::Seg;
+use ieee::num::is_finite;
+use ieee::num::is_nan;
+use ieee::num::same;
+
+impl Problem {
+    // Document 01's number of the refusal.
+    pub fn number(self) -> usize
+        ensures { λ r. ⌜ r ≡ numberOf self ⌝ }
+    {
+        match self {
+            Problem::TextTooLong => 1,
+            Problem::LineNotRead { line: _ } => 2,
+            Problem::LimitPassed => 3,
+            Problem::BodyNotPlaced { body: _ } => 4,
+            Problem::NoDirection => 5,
+            Problem::PartOnNoSuchBody { part: _ } => 6,
+            Problem::OutlineNotClosed { part: _ } => 7,
+            Problem::RangeNotDrawn { pair: _ } => 8,
+            Problem::SideOnTwoBodies { pair: _ } => 9,
+            Problem::PairOnOneBody { pair: _ } => 10,
+            Problem::PoseNotMatching => 11,
+            Problem::NoSuchThing => 12,
+            Problem::TooFewRows => 13,
+        }
+    }
+
+    // Its place, 0 where it has none.
+    pub fn place(self) -> usize
+        ensures { λ r. ⌜ r ≡ placeOf self ⌝ }
+    {
+        match self {
+            Problem::TextTooLong => 0,
+            Problem::LineNotRead { line } => line,
+            Problem::LimitPassed => 0,
+            Problem::BodyNotPlaced { body } => body,
+            Problem::NoDirection => 0,
+            Problem::PartOnNoSuchBody { part } => part,
+            Problem::OutlineNotClosed { part } => part,
+            Problem::RangeNotDrawn { pair } => pair,
+            Problem::SideOnTwoBodies { pair } => pair,
+            Problem::PairOnOneBody { pair } => pair,
+            Problem::PoseNotMatching => 0,
+            Problem::NoSuchThing => 0,
+            Problem::TooFewRows => 0,
+        }
+    }
+}
+
+// ---- 3: a count passes its limit
+
+fn range_length(r: SurfaceRef) -> usize
+    ensures { λ x. ⌜ x ≡ rangeLength r ⌝ }
+{
+    if r.start < r.end { r.end - r.start } else { 0 }
+}
+
+fn side_over(u: Surface) -> bool
+    ensures { λ r. ⌜ r ≡ sideOver u ⌝ }
+{
+    let n = u.count;
+    if 4 < n {
+        return true;
+    }
+    let mut total: usize = 0;
+    let mut i: usize = 0;
+    while i < n {
+        let r = u.range[i];
+        let k = range_length(r);
+        i += 1;
+        if 12 < k {
+            return true;
+        }
+        total += k;
+    }
+    12 < total
+}
+
+fn pair_over(p: ContactPair) -> bool
+    ensures { λ r. ⌜ r ≡ pairOver p ⌝ }
+{
+    let a = p.a;
+    let b = p.b;
+    side_over(a) | side_over(b)
+}
+
+fn parts_over(p: Parts) -> bool
+    ensures { λ r. ⌜ r ≡ partsOver p ⌝ }
+{
+    let n = p.count;
+    if 32 < n {
+        return true;
+    }
+    let mut total: usize = 0;
+    let mut i: usize = 0;
+    while i < n {
+        let q = p.part[i];
+        let k = q.segs;
+        i += 1;
+        if 48 < k {
+            return true;
+        }
+        total += k;
+    }
+    384 < total
+}
+
+fn pairs_over(p: Pairs) -> bool
+    ensures { λ r. ⌜ r ≡ pairsOver p ⌝ }
+{
+    let n = p.count;
+    if 16 < n {
+        return true;
+    }
+    let mut i: usize = 0;
+    while i < n {
+        let q = p.pair[i];
+        i += 1;
+        if pair_over(q) {
+            return true;
+        }
+    }
+    false
+}
+
+fn limit_passed(m: Mechanism) -> bool
+    ensures { λ r. ⌜ r ≡ limitPassed m ⌝ }
+{
+    let b = m.bodies;
+    let p = m.parts;
+    let q = m.pairs;
+    ((15 < b.count) | (16 < b.coords)) | (parts_over(p) | pairs_over(q))
+}
+
+// ---- 4: a body's parent is not below it, or its coordinate is not below the count
+
+fn coord_below(n: usize, j: Joint) -> bool
+    ensures { λ r. ⌜ r ≡ coordBelow n j ⌝ }
+{
+    match j {
+        Joint::Ground => true,
+        Joint::Revolute { pivot: _, coord } => coord < n,
+        Joint::Prismatic {
+            origin: _,
+            axis: _,
+            coord,
+        } => coord < n,
+    }
+}
+
+// Body i + 1.
+fn is_misplaced(coords: usize, b: Body, i: usize) -> bool
+    ensures { λ r. ⌜ r ≡ misplaced coords b i ⌝ }
+{
+    let j = b.joint;
+    !((b.parent <= i) & coord_below(coords, j))
+}
+
+fn bodies_checked(b: Bodies) -> Checked
+    requires { ⌜ b .count ≤ 15 ⌝ }
+    ensures { λ r. ⌜ r ≡ bodiesChecked b ⌝ }
+{
+    let n = b.count;
+    let coords = b.coords;
+    let mut i: usize = 0;
+    while i < n {
+        let k = i;
+        let c = b.body[k];
+        i += 1;
+        if is_misplaced(coords, c, k) {
+            return Checked::Refused(Problem::BodyNotPlaced { body: k + 1 });
+        }
+    }
+    Checked::Accepted
+}
+
+// ---- 5: an axis or an arc's direction has no `Dir::new`, or a revolved axis is NaN
+
+fn no_dir(d: Dir) -> bool
+    ensures { λ r. ⌜ r ≡ noDir d ⌝ }
+{
+    let found = Dir::new(d.x, d.y);
+    match found {
+        MaybeDir::SomeDir(_) => false,
+        MaybeDir::NoDir => true,
+    }
+}
+
+fn joint_lacks(j: Joint) -> bool
+    ensures { λ r. ⌜ r ≡ jointLacks j ⌝ }
+{
+    match j {
+        Joint::Ground => false,
+        Joint::Revolute { pivot: _, coord: _ } => false,
+        Joint::Prismatic {
+            origin: _,
+            axis,
+            coord: _,
+        } => no_dir(axis),
+    }
+}
+
+fn sweep_lacks(s: Sweep) -> bool
+    ensures { λ r. ⌜ r ≡ sweepLacks s ⌝ }
+{
+    match s {
+        Sweep::Extruded {
+            width: _,
+            across: _,
+        } => false,
+        Sweep::Revolved { axis } => is_nan(axis),
+        Sweep::Milled { width: _ } => false,
+        Sweep::Oval { width: _ } => false,
+    }
+}
+
+fn seg_lacks(s: Seg) -> bool
+    ensures { λ x. ⌜ x ≡ segLacks s ⌝ }
+{
+    match s {
+        Seg::Line { a: _, b: _ } => false,
+        Seg::Arc {
+            c: _,
+            r: _,
+            from,
+            to,
+        } => no_dir(from) | no_dir(to),
+    }
+}
+
+fn bodies_lack(b: Bodies) -> bool
+    requires { ⌜ b .count ≤ 15 ⌝ }
+    ensures { λ r. ⌜ r ≡ bodiesLack b ⌝ }
+{
+    let n = b.count;
+    let mut i: usize = 0;
+    while i < n {
+        let c = b.body[i];
+        let j = c.joint;
+        i += 1;
+        if joint_lacks(j) {
+            return true;
+        }
+    }
+    false
+}
+
+fn parts_lack(p: Parts) -> bool
+    requires { ⌜ p .count ≤ 32 ⌝ }
+    ensures { λ r. ⌜ r ≡ partsLack p ⌝ }
+{
+    let n = p.count;
+    let mut i: usize = 0;
+    while i < n {
+        let q = p.part[i];
+        let s = q.sweep;
+        i += 1;
+        if sweep_lacks(s) {
+            return true;
+        }
+    }
+    false
+}
+
+fn outlines_lack(o: Outlines, n: usize) -> bool
+    requires { ⌜ n ≤ 384 ⌝ }
+    ensures { λ r. ⌜ r ≡ outlinesLack o n ⌝ }
+{
+    let mut i: usize = 0;
+    while i < n {
+        let b = o.seg[i];
+        let s = b.seg;
+        i += 1;
+        if seg_lacks(s) {
+            return true;
+        }
+    }
+    false
+}
+
+// ---- 6 and 7, part by part: a part names no body; its outline is not finite or not closed
+
+fn point_finite(p: Point) -> bool
+    ensures { λ r. ⌜ r ≡ pointFinite p ⌝ }
+{
+    is_finite(p.x) & is_finite(p.y)
+}
+
+// Bit for bit, two NaNs being the same.
+pub fn same_point(p: Point, q: Point) -> bool
+    ensures { λ r. ⌜ r ≡ samePoint p q ⌝ }
+{
+    same(p.x, q.x) & same(p.y, q.y)
+}
+
+// Whether a segment is not finite, or does not end where the next begins.
+fn is_open(s: Seg, next: Seg) -> bool
+    ensures { λ r. ⌜ r ≡ segOpen s next ⌝ }
+{
+    let a = s.start();
+    let b = s.end();
+    !((point_finite(a) & point_finite(b)) & same_point(b, next.start()))
+}
+
+// Whether of the n segments from `at` on there are fewer than two, or one is open.
+fn outline_open(o: Outlines, at: usize, n: usize) -> bool
+    requires { ⌜ (at + n ≤ 384) × (n ≤ 48) ⌝ }
+    ensures { λ r. ⌜ r ≡ outlineOpen o at n ⌝ }
+{
+    if n < 2 {
+        return true;
+    }
+    let mut i: usize = 0;
+    while i < n {
+        let b = o.seg[at + i];
+        let s = b.seg;
+        let k = (i + 1) % n;
+        let c = o.seg[at + k];
+        let t = c.seg;
+        i += 1;
+        if is_open(s, t) {
+            return true;
+        }
+    }
+    false
+}
+
+fn part_checked(bodies: usize, o: Outlines, p: Part, at: usize, i: usize) -> Checked
+    requires { ⌜ (at + p .segs ≤ 384) × (p .segs ≤ 48) ⌝ }
+    ensures { λ r. ⌜ r ≡ partChecked bodies o p at i ⌝ }
+{
+    if bodies < p.body {
+        return Checked::Refused(Problem::PartOnNoSuchBody { part: i });
+    }
+    if outline_open(o, at, p.segs) {
+        return Checked::Refused(Problem::OutlineNotClosed { part: i });
+    }
+    Checked::Accepted
+}
+
+fn is_refused(c: Checked) -> bool
+    ensures { λ r. ⌜ r ≡ not (isAccepted c) ⌝ }
+{
+    match c {
+        Checked::Accepted => false,
+        Checked::Refused(_) => true,
+    }
+}
+
+fn parts_checked(bodies: usize, p: Parts, o: Outlines) -> Checked
+    requires { ⌜ FewParts p ⌝ }
+    ensures { λ r. ⌜ r ≡ partsChecked bodies p o ⌝ }
+{
+    let n = p.count;
+    let mut at: usize = 0;
+    let mut i: usize = 0;
+    while i < n {
+        let q = p.part[i];
+        let c = part_checked(bodies, o, q, at, i);
+        at += q.segs;
+        i += 1;
+        if is_refused(c) {
+            return c;
+        }
+    }
+    Checked::Accepted
+}
+
+// ---- 8 to 10, pair by pair
+
+// The body that a side's ranges lie on, as far as they were read.
+enum Side {
+    Unknown,
+    On(usize),
+    Wrong(Problem),
+}
+
+// How many segments a silhouette has whose outline has n.
+fn silhouette_length(s: Sweep, n: usize) -> usize
+    requires { ⌜ n ≤ 48 ⌝ }
+    ensures { λ r. ⌜ r ≡ silhouetteLength s n ⌝ }
+{
+    match s {
+        Sweep::Extruded {
+            width: _,
+            across: _,
+        } => n,
+        Sweep::Revolved { axis: _ } => turned_length(n),
+        Sweep::Milled { width: _ } => n,
+        Sweep::Oval { width: _ } => n,
+    }
+}
+
+fn turned_length(n: usize) -> usize
+    requires { ⌜ n ≤ 48 ⌝ }
+    ensures { λ r. ⌜ r ≡ turnedLength n ⌝ }
+{
+    if n == 0 { 0 } else { (n - 1) + (n - 1) }
+}
+
+// Whether a range names a part, holds a segment and stays within the silhouette.
+fn range_drawn(ps: Parts, r: SurfaceRef) -> bool
+    requires { ⌜ FewParts ps ⌝ }
+    ensures { λ x. ⌜ x ≡ rangeDrawn ps r ⌝ }
+{
+    let i = r.part;
+    if i < ps.count {
+        let q = ps.part[i];
+        let s = q.sweep;
+        (r.start < r.end) & (r.end <= silhouette_length(s, q.segs))
+    } else {
+        false
+    }
+}
+
+fn is_wrong(s: Side) -> bool
+    ensures { λ r. ⌜ r ≡ isWrong s ⌝ }
+{
+    match s {
+        Side::Unknown => false,
+        Side::On(_) => false,
+        Side::Wrong(_) => true,
+    }
+}
+
+fn with_body(pair: usize, s: Side, body: usize) -> Side
+    ensures { λ r. ⌜ r ≡ withBody pair s body ⌝ }
+{
+    match s {
+        Side::Unknown => Side::On(body),
+        Side::On(b) => {
+            if b == body {
+                Side::On(b)
+            } else {
+                Side::Wrong(Problem::SideOnTwoBodies { pair })
+            }
+        }
+        Side::Wrong(p) => Side::Wrong(p),
+    }
+}
+
+// The body of the part that a range names.
+fn body_of(ps: Parts, r: SurfaceRef) -> usize
+    requires { ⌜ ps .count ≤ 32 ⌝ }
+    ensures { λ x. ⌜ x ≡ bodyOfPart ps (r .part) ⌝ }
+{
+    let i = r.part;
+    if i < ps.count {
+        let q = ps.part[i];
+        q.body
+    } else {
+        0
+    }
+}
+
+fn with_range(ps: Parts, pair: usize, s: Side, r: SurfaceRef) -> Side
+    requires { ⌜ FewParts ps ⌝ }
+    ensures { λ x. ⌜ x ≡ withRange ps pair s r ⌝ }
+{
+    if is_wrong(s) {
+        return s;
+    }
+    if range_drawn(ps, r) {
+        return with_body(pair, s, body_of(ps, r));
+    }
+    Side::Wrong(Problem::RangeNotDrawn { pair })
+}
+
+fn side_end(pair: usize, s: Side) -> Side
+    ensures { λ r. ⌜ r ≡ sideEnd pair s ⌝ }
+{
+    match s {
+        Side::Unknown => Side::Wrong(Problem::RangeNotDrawn { pair }),
+        Side::On(b) => Side::On(b),
+        Side::Wrong(p) => Side::Wrong(p),
+    }
+}
+
+fn side_body(ps: Parts, pair: usize, u: Surface) -> Side
+    requires { ⌜ FewParts ps × (u .count ≤ 4) ⌝ }
+    ensures { λ r. ⌜ r ≡ sideBody ps pair u ⌝ }
+{
+    let n = u.count;
+    let mut s = Side::Unknown;
+    let mut i: usize = 0;
+    while i < n {
+        let r = u.range[i];
+        s = with_range(ps, pair, s, r);
+        i += 1;
+    }
+    side_end(pair, s)
+}
+
+fn sides_checked(pair: usize, a: Side, b: Side) -> Checked
+    ensures { λ r. ⌜ r ≡ sidesChecked pair a b ⌝ }
+{
+    match a {
+        Side::Unknown => Checked::Accepted,
+        Side::Wrong(p) => Checked::Refused(p),
+        Side::On(x) => match b {
+            Side::Unknown => Checked::Accepted,
+            Side::Wrong(p) => Checked::Refused(p),
+            Side::On(y) => {
+                if x == y {
+                    Checked::Refused(Problem::PairOnOneBody { pair })
+                } else {
+                    Checked::Accepted
+                }
+            }
+        },
+    }
+}
+
+fn pair_checked(ps: Parts, q: ContactPair, i: usize) -> Checked
+    requires { ⌜ FewParts ps × (q .a .count ≤ 4) × (q .b .count ≤ 4) ⌝ }
+    ensures { λ r. ⌜ r ≡ sidesChecked i (sideBody ps i (q .a)) (sideBody ps i (q .b)) ⌝ }
+{
+    let a = q.a;
+    let b = q.b;
+    sides_checked(i, side_body(ps, i, a), side_body(ps, i, b))
+}
+
+fn pairs_checked(ps: Parts, pairs: Pairs) -> Checked
+    requires { ⌜ FewParts ps × FewPairs pairs ⌝ }
+    ensures { λ r. ⌜ r ≡ pairsChecked ps pairs ⌝ }
+{
+    let n = pairs.count;
+    let mut i: usize = 0;
+    while i < n {
+        let q = pairs.pair[i];
+        let c = pair_checked(ps, q, i);
+        i += 1;
+        if is_refused(c) {
+            return c;
+        }
+    }
+    Checked::Accepted
+}
+
+// ---- the whole
+
+// How many segments all outlines have.
+fn segs_in_all(p: Parts) -> usize
+    requires { ⌜ FewParts p ⌝ }
+    ensures { λ r. ⌜ r ≡ startOfPart p (p .count) ⌝ }
+{
+    let n = p.count;
+    let mut total: usize = 0;
+    let mut i: usize = 0;
+    while i < n {
+        let q = p.part[i];
+        total += q.segs;
+        i += 1;
+    }
+    total
+}
+
+fn direction_missing(m: Mechanism) -> bool
+    requires { ⌜ Few m ⌝ }
+    ensures { λ r. ⌜ r ≡ directionMissing m ⌝ }
+{
+    let b = m.bodies;
+    let p = m.parts;
+    let o = m.outlines;
+    bodies_lack(b) | (parts_lack(p) | outlines_lack(o, segs_in_all(p)))
+}
+
+// Whether a description is accepted, or the first refusal that applies.
+pub fn check(m: Mechanism) -> Checked
+    ensures { λ r. ⌜ r ≡ checkOf m ⌝ }
+{
+    if limit_passed(m) {
+        return Checked::Refused(Problem::LimitPassed);
+    }
+    let b = m.bodies;
+    let placed = bodies_checked(b);
+    if is_refused(placed) {
+        return placed;
+    }
+    if direction_missing(m) {
+        return Checked::Refused(Problem::NoDirection);
+    }
+    let p = m.parts;
+    let o = m.outlines;
+    let drawn = parts_checked(b.count, p, o);
+    if is_refused(drawn) {
+        return drawn;
+    }
+    let q = m.pairs;
+    pairs_checked(p, q)
+}
