@@ -3,18 +3,19 @@ use mathlib.Core.Path.{_≡_, refl, sym, ap, _∙_}
 use mathlib.Core.Bool.{Bool, true, false, false≢true, not, _||_}
 use Prim.Native.Nat.{ℕ, _+_, _<_, _≤_}
 use native.Mathlib.Omega.{arith}
-use lib.Dec.{ltb}
-use borrow.Author.Tests.{ltb-false}
-use Rattle.laws.proofs.Choice.{neither, not-yes, not-no}
-use Rattle.laws.proofs.Finite.{any-none}
+use lib.Dec.{leb, ltb}
+use borrow.Author.Tests.{leb-true, ltb-false}
+use Rattle.laws.proofs.Choice.{neither, both, not-yes, not-no}
+use Rattle.laws.proofs.Finite.{any-none, first-none}
 use Rattle.laws.proofs.Sums.{sum-more, sum-mono}
-use Rattle.mechanism.specs.Description.{pairAt, segsOf, startOfPart, sideLength}
-use Rattle.mechanism.specs.Check.{isAccepted, andThen, refusedIf, sideOver, pairOver, partsOver, pairsOver, limitPassed, bodiesChecked, directionMissing, partsChecked, pairsChecked, checkOf, FewParts, FewPairs, Few}
+use Rattle.mechanism.specs.Description.{bodyAt, pairAt, segsOf, startOfPart, sideLength}
+use Rattle.mechanism.specs.Check.{isAccepted, andThen, refusedIf, sideOver, pairOver, partsOver, pairsOver, limitPassed, coordBelow, misplaced, bodiesChecked, directionMissing, partsChecked, pairsChecked, checkOf, FewParts, FewPairs, Few}
+use Rattle.mechanism.specs.Pose.{Rooted}
 use Rattle.mechanism.specs.declared.Parts.{Parts}
 use Rattle.mechanism.specs.declared.Pairs.{Pairs}
 use Rattle.mechanism.specs.declared.Mechanism.{Mechanism}
 use Rattle.mechanism.specs.declared.Problem.{Problem}
-use Rattle.mechanism.specs.declared.Problem.the-variants.{LimitPassed, NoDirection}
+use Rattle.mechanism.specs.declared.Problem.the-variants.{LimitPassed, BodyNotPlaced, NoDirection}
 use Rattle.mechanism.specs.declared.Checked.{Checked}
 use Rattle.mechanism.specs.declared.Checked.the-variants.{Accepted, Refused}
 
@@ -121,3 +122,43 @@ is-no {r} e f t = ap isAccepted (sym e) ∙ not-yes (isAccepted r) (sym f ∙ t)
 
 pub is-yes : {r c : Checked} {b : Bool} → r ≡ c → b ≡ not (isAccepted r) → b ≡ false → isAccepted c ≡ true
 is-yes {r} e f t = ap isAccepted (sym e) ∙ not-no (isAccepted r) (sym f ∙ t)
+
+-- ---- what an accepted description is known to be
+refused-not : (p : Problem) → Refused p ≡ Accepted → ⊥
+refused-not p e = false≢true (ap isAccepted e)
+
+module _ (m : Mechanism) (e : checkOf m ≡ Accepted) where
+  no-limit : limitPassed m ≡ false
+  no-limit = go (limitPassed m) refl
+    where
+      go : (b : Bool) → limitPassed m ≡ b → b ≡ false
+      go true h = absurd (refused-not LimitPassed (sym (at-limits m h) ∙ e))
+      go false h = refl
+
+  pub accepted-few : Few m
+  accepted-few = few m no-limit
+
+  bodies-pass : isAccepted (bodiesChecked (m .bodies)) ≡ true
+  bodies-pass = go (isAccepted (bodiesChecked (m .bodies))) refl
+    where
+      go : (b : Bool) → isAccepted (bodiesChecked (m .bodies)) ≡ b → b ≡ true
+      go true h = refl
+      go false h = absurd (false≢true (sym h ∙ ap isAccepted (sym (at-bodies m no-limit h) ∙ e)))
+
+  body-pass : (i : ℕ) → i < m .bodies .count → misplaced (m .bodies .coords) (bodyAt (m .bodies) i) i ≡ false
+  unfolding bodiesChecked
+  body-pass i h = not-misplaced (misplaced (m .bodies .coords) (bodyAt (m .bodies) i) i) (first-none isAccepted Accepted _ (m .bodies .count) 0 bodies-pass i (omega arith) (omega arith))
+    where
+      not-misplaced : (b : Bool) → isAccepted (refusedIf b (BodyNotPlaced (i + 1))) ≡ true → b ≡ false
+      not-misplaced true g = absurd (false≢true g)
+      not-misplaced false g = refl
+
+  pub accepted-rooted : Rooted (m .bodies) (m .bodies .coords)
+  accepted-rooted = record {
+    few = accepted-few .bodies;
+    below = λ i h. leb-true (bodyAt (m .bodies) i .parent) i (pass i h .0);
+    driven = λ i h. pass i h .1;
+  }
+    where
+      pass : (i : ℕ) → i < m .bodies .count → (leb (bodyAt (m .bodies) i .parent) i ≡ true) × (coordBelow (m .bodies .coords) (bodyAt (m .bodies) i .joint) ≡ true)
+      pass i h = both _ _ (not-no _ (body-pass i h))

@@ -191,7 +191,7 @@ fn bodies_checked(b: Bodies) -> Checked
         let c = b.body[k];
         i += 1;
         if is_misplaced(coords, c, k) {
-            return Checked::Refused(Problem::BodyNotPlaced { body: k + 1 });
+            return Checked::Refused(Problem::BodyNotPlaced { body: i });
         }
     }
     Checked::Accepted
@@ -522,7 +522,7 @@ fn sides_checked(pair: usize, a: Side, b: Side) -> Checked
         Side::Wrong(p) => Checked::Refused(p),
         Side::On(x) => match b {
             Side::Unknown => Checked::Accepted,
-            Side::Wrong(p) => Checked::Refused(p),
+            Side::Wrong(x) => Checked::Refused(x),
             Side::On(y) => {
                 if x == y {
                     Checked::Refused(Problem::PairOnOneBody { pair })

@@ -42,9 +42,6 @@ add-i c = omega arith
 is-misplaced-requires : tie.Need-is-misplaced-requires Inv-loop μ-loop
 is-misplaced-requires c κs = search needs
 
-add-t14 : tie.Need-add-t14 Inv-loop μ-loop
-add-t14 c = omega arith
-
 returns : tie.Need-returns Inv-loop μ-loop
 unfolding bodiesChecked
 returns c = sym (sym (c .before .before .before .before .loop .inv .1) ∙ first-hit _ _ _ _ (c .before .before .before .before .loop .i) (c .before .before .before .loop-test .taken) (cond-yes _ _ (sym (c .before .is-misplaced .ensures) ∙ c .if1 .taken)) refl)
@@ -70,7 +67,6 @@ bodies-checked-spec =
     element-copy-out-c
     add-i
     is-misplaced-requires
-    add-t14
     returns
     loop-less
     loop-again
