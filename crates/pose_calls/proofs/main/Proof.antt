@@ -1,0 +1,54 @@
+use native.Mathlib.Omega.{arith}
+use borrow.Author.Needs.{needs}
+use Prim.Native.Nat.{_-_, _≤_}
+use Rattle.pose_calls.proofs.main.Statement.{statement}
+use Rattle.pose_calls.proofs.main.Tie as tie
+
+abbrev Inv-loop : tie.InvT-loop
+Inv-loop s₀ turns₀ s turns = turns ≤ 10000000
+
+abbrev μ-loop : tie.MeasureT-loop
+μ-loop s₀ turns₀ s turns = turns
+
+blank-state-requires : tie.Need-blank-state-requires Inv-loop μ-loop
+blank-state-requires c κs = search needs
+
+loop-holds : tie.Need-loop-holds Inv-loop μ-loop
+loop-holds c = omega arith
+
+next-letter-requires : tie.Need-next-letter-requires Inv-loop μ-loop
+next-letter-requires c κs = search needs
+
+returns : tie.Need-returns Inv-loop μ-loop
+returns c = search needs
+
+replay-requires : tie.Need-replay-requires Inv-loop μ-loop
+replay-requires c κs = search needs
+
+sub-turns : tie.Need-sub-turns Inv-loop μ-loop
+sub-turns c = omega arith
+
+loop-less : tie.Need-loop-less Inv-loop μ-loop
+loop-less c = omega arith
+
+loop-again : tie.Need-loop-again Inv-loop μ-loop
+loop-again c = omega arith
+
+returns-2 : tie.Need-returns-2 Inv-loop μ-loop
+returns-2 c = search needs
+
+pub main-spec : {M : Type 1} → statement M
+main-spec =
+    tie.close
+    (tie.spec
+    Inv-loop
+    μ-loop
+    blank-state-requires
+    loop-holds
+    next-letter-requires
+    returns
+    replay-requires
+    sub-turns
+    loop-less
+    loop-again
+    returns-2)
