@@ -1,0 +1,93 @@
+use borrow.Author.Needs.{needs}
+use native.Mathlib.Omega.{arith}
+use Prim.Native.Nat.{_-_}
+use mathlib.Core.Path.{sym, _∙_}
+use lib.ListN.{length}
+use borrow.Author.Tests.{not-true, not-false}
+use Rattle.text.proofs.Pieces.{piece}
+use Rattle.text.proofs.FieldLaws.{Fitting, fitting-starts, fits-no, fits-last, fits-more, fits-done}
+use Rattle.text.proofs.fields.fits.Statement.{statement}
+use Rattle.text.proofs.fields.fits.Tie as tie
+
+abbrev Inv-loop : tie.InvT-loop
+Inv-loop line form at₀ j₀ at j = Fitting line form at j
+
+abbrev μ-loop : tie.MeasureT-loop
+μ-loop line form at₀ j₀ at j = length form - j
+
+loop-holds : tie.Need-loop-holds Inv-loop μ-loop
+loop-holds c = fitting-starts (c .before .before .args .line .now) (c .before .before .args .form .now)
+
+find-requires : tie.Need-find-requires Inv-loop μ-loop
+find-requires c κs = search needs
+
+sub-f : tie.Need-sub-f Inv-loop μ-loop
+sub-f c =
+    let p = piece (c .before .before .before .before .before .args .line .now) 44 (c .before .before .loop .at) (c .find .result) (c .before .before .loop .inv .within) (c .find .ensures) in
+    omega arith
+
+part-f-start : tie.Need-part-f-start Inv-loop μ-loop
+part-f-start c =
+    let p = piece (c .before .before .before .before .before .args .line .now) 44 (c .before .before .loop .at) (c .find .result) (c .before .before .loop .inv .within) (c .find .ensures) in
+    omega arith
+
+part-f-end : tie.Need-part-f-end Inv-loop μ-loop
+part-f-end c =
+    let p = piece (c .before .before .before .before .before .args .line .now) 44 (c .before .before .loop .at) (c .find .result) (c .before .before .loop .inv .within) (c .find .ensures) in
+    omega arith
+
+shared-slice-read-is-kind : tie.Need-shared-slice-read-is-kind Inv-loop μ-loop
+shared-slice-read-is-kind c = omega arith
+
+is-kind-requires : tie.Need-is-kind-requires Inv-loop μ-loop
+is-kind-requires c κs = search needs
+
+returns : tie.Need-returns Inv-loop μ-loop
+returns c =
+    let p = piece (c .before .before .before .before .before .before .before .before .before .args .line .now) 44 (c .before .before .before .before .before .before .loop .at) (c .before .before .before .before .find .result) (c .before .before .before .before .before .before .loop .inv .within) (c .before .before .before .before .find .ensures) in
+    fits-no (c .before .before .before .before .before .before .before .before .before .args .line .now) (c .before .before .before .before .before .before .before .before .before .args .form .now) (c .before .before .before .before .before .before .loop .at) (c .before .before .before .before .before .before .loop .j) (c .before .before .before .before .find .result) (c .before .before .before .before .before .loop-test .taken) (c .before .before .before .before .before .before .loop .inv) p (sym (c .before .is-kind .ensures) ∙ not-true _ (c .if1 .taken))
+
+add-j : tie.Need-add-j Inv-loop μ-loop
+add-j c = omega arith
+
+returns-2 : tie.Need-returns-2 Inv-loop μ-loop
+returns-2 c =
+    let p = piece (c .before .before .before .before .before .before .before .before .before .before .args .line .now) 44 (c .before .before .before .before .before .before .before .loop .at) (c .before .before .before .before .before .find .result) (c .before .before .before .before .before .before .before .loop .inv .within) (c .before .before .before .before .before .find .ensures) in
+    fits-last (c .before .before .before .before .before .before .before .before .before .before .args .line .now) (c .before .before .before .before .before .before .before .before .before .before .args .form .now) (c .before .before .before .before .before .before .before .loop .at) (c .before .before .before .before .before .before .before .loop .j) (c .before .before .before .before .before .find .result) (c .before .before .before .before .before .before .loop-test .taken) (c .before .before .before .before .before .before .before .loop .inv) p (sym (c .before .before .is-kind .ensures) ∙ not-false _ (c .before .if1 .left)) (c .if2 .taken)
+
+add-at : tie.Need-add-at Inv-loop μ-loop
+add-at c =
+    let p = piece (c .before .before .before .before .before .before .before .before .before .before .args .line .now) 44 (c .before .before .before .before .before .before .before .loop .at) (c .before .before .before .before .before .find .result) (c .before .before .before .before .before .before .before .loop .inv .within) (c .before .before .before .before .before .find .ensures) in
+    omega arith
+
+loop-less : tie.Need-loop-less Inv-loop μ-loop
+loop-less c = omega arith
+
+loop-again : tie.Need-loop-again Inv-loop μ-loop
+loop-again c =
+    let p = piece (c .before .before .before .before .before .before .before .before .before .before .args .line .now) 44 (c .before .before .before .before .before .before .before .loop .at) (c .before .before .before .before .before .find .result) (c .before .before .before .before .before .before .before .loop .inv .within) (c .before .before .before .before .before .find .ensures) in
+    fits-more (c .before .before .before .before .before .before .before .before .before .before .args .line .now) (c .before .before .before .before .before .before .before .before .before .before .args .form .now) (c .before .before .before .before .before .before .before .loop .at) (c .before .before .before .before .before .before .before .loop .j) (c .before .before .before .before .before .find .result) (c .before .before .before .before .before .before .loop-test .taken) (c .before .before .before .before .before .before .before .loop .inv) p (sym (c .before .before .is-kind .ensures) ∙ not-false _ (c .before .if1 .left)) (c .if2 .left)
+
+returns-3 : tie.Need-returns-3 Inv-loop μ-loop
+returns-3 c = fits-done (c .before .before .before .before .args .line .now) (c .before .before .before .before .args .form .now) (c .before .loop .at) (c .before .loop .j) (c .loop-test .left) (c .before .loop .inv)
+
+pub fits-spec : {M : Type 1} → statement M
+fits-spec =
+    tie.close
+    (tie.spec
+    Inv-loop
+    μ-loop
+    loop-holds
+    find-requires
+    sub-f
+    part-f-start
+    part-f-end
+    shared-slice-read-is-kind
+    is-kind-requires
+    returns
+    add-j
+    returns-2
+    add-at
+    loop-less
+    loop-again
+    returns-3)

@@ -1,0 +1,64 @@
+use Rattle.text.specs.Records.{endRecord}
+use borrow.Author.Needs.{needs}
+use Rattle.text.proofs.records.end_record.Statement.{statement}
+use Rattle.text.proofs.records.end_record.Tie as tie
+
+slice-aggregate-fits : tie.Need-slice-aggregate-fits
+slice-aggregate-fits c = search needs
+
+fits-requires : tie.Need-fits-requires
+fits-requires c κs = search needs
+
+real-at-requires : tie.Need-real-at-requires
+real-at-requires c κs = search needs
+
+returns : tie.Need-returns
+unfolding endRecord
+returns c =
+    let t1 = simp (c .before .before .fits2 .ensures) at (c .before .if1 .taken) in
+    simp (t1, c .real-at .ensures, c .before .before .fits2 .ensures)
+
+slice-aggregate-fits-2 : tie.Need-slice-aggregate-fits-2
+slice-aggregate-fits-2 c = search needs
+
+fits-requires-2 : tie.Need-fits-requires-2
+fits-requires-2 c κs = search needs
+
+real-at-requires-2 : tie.Need-real-at-requires-2
+real-at-requires-2 c κs = search needs
+
+real-at-requires-3 : tie.Need-real-at-requires-3
+real-at-requires-3 c κs = search needs
+
+real-at-requires-4 : tie.Need-real-at-requires-4
+real-at-requires-4 c κs = search needs
+
+returns-2 : tie.Need-returns-2
+unfolding endRecord
+returns-2 c =
+    let t1 = simp (c .before .before .before .before .before .before .before .fits2 .ensures) at (c .before .before .before .before .before .before .if1 .left) in
+    let t2 = simp (c .before .before .before .before .fits3 .ensures, c .before .before .before .before .before .before .before .fits2 .ensures) at (c .before .before .before .if2 .taken) in
+    simp (t1, t2, c .real-at4 .ensures, c .before .real-at3 .ensures, c .before .before .real-at2 .ensures, c .before .before .before .before .fits3 .ensures, c .before .before .before .before .before .before .before .fits2 .ensures)
+
+returns-3 : tie.Need-returns-3
+unfolding endRecord
+returns-3 c =
+    let t1 = simp (c .before .before .before .before .fits2 .ensures) at (c .before .before .before .if1 .left) in
+    let t2 = simp (c .before .fits3 .ensures, c .before .before .before .before .fits2 .ensures) at (c .if2 .left) in
+    simp (t1, t2, c .before .fits3 .ensures, c .before .before .before .before .fits2 .ensures)
+
+pub end-record-spec : {M : Type 1} → statement M
+end-record-spec =
+    tie.close
+    (tie.spec
+    slice-aggregate-fits
+    fits-requires
+    real-at-requires
+    returns
+    slice-aggregate-fits-2
+    fits-requires-2
+    real-at-requires-2
+    real-at-requires-3
+    real-at-requires-4
+    returns-2
+    returns-3)

@@ -1,0 +1,102 @@
+use Rattle.text.specs.Records.{jointRecord}
+use borrow.Author.Needs.{needs}
+use Rattle.text.proofs.records.joint_record.Statement.{statement}
+use Rattle.text.proofs.records.joint_record.Tie as tie
+
+slice-aggregate-fits : tie.Need-slice-aggregate-fits
+slice-aggregate-fits c = search needs
+
+fits-requires : tie.Need-fits-requires
+fits-requires c κs = search needs
+
+number-at-requires : tie.Need-number-at-requires
+number-at-requires c κs = search needs
+
+returns : tie.Need-returns
+unfolding jointRecord
+returns c =
+    let t1 = simp (c .before .before .fits2 .ensures) at (c .before .if1 .taken) in
+    simp (t1, c .number-at .ensures, c .before .before .fits2 .ensures)
+
+slice-aggregate-fits-2 : tie.Need-slice-aggregate-fits-2
+slice-aggregate-fits-2 c = search needs
+
+fits-requires-2 : tie.Need-fits-requires-2
+fits-requires-2 c κs = search needs
+
+number-at-requires-2 : tie.Need-number-at-requires-2
+number-at-requires-2 c κs = search needs
+
+point-at-requires : tie.Need-point-at-requires
+point-at-requires c κs = search needs
+
+number-at-requires-3 : tie.Need-number-at-requires-3
+number-at-requires-3 c κs = search needs
+
+returns-2 : tie.Need-returns-2
+unfolding jointRecord
+returns-2 c =
+    let t1 = simp (c .before .before .before .before .before .before .before .fits2 .ensures) at (c .before .before .before .before .before .before .if1 .left) in
+    let t2 = simp (c .before .before .before .before .fits3 .ensures, c .before .before .before .before .before .before .before .fits2 .ensures) at (c .before .before .before .if2 .taken) in
+    simp (t1, t2, c .number-at3 .ensures, c .before .point-at .ensures, c .before .before .number-at2 .ensures, c .before .before .before .before .fits3 .ensures, c .before .before .before .before .before .before .before .fits2 .ensures)
+
+slice-aggregate-fits-3 : tie.Need-slice-aggregate-fits-3
+slice-aggregate-fits-3 c = search needs
+
+fits-requires-3 : tie.Need-fits-requires-3
+fits-requires-3 c κs = search needs
+
+number-at-requires-4 : tie.Need-number-at-requires-4
+number-at-requires-4 c κs = search needs
+
+point-at-requires-2 : tie.Need-point-at-requires-2
+point-at-requires-2 c κs = search needs
+
+dir-at-requires : tie.Need-dir-at-requires
+dir-at-requires c κs = search needs
+
+number-at-requires-5 : tie.Need-number-at-requires-5
+number-at-requires-5 c κs = search needs
+
+returns-3 : tie.Need-returns-3
+unfolding jointRecord
+returns-3 c =
+    let t1 = simp (c .before .before .before .before .before .before .before .before .before .before .before .fits2 .ensures) at (c .before .before .before .before .before .before .before .before .before .before .if1 .left) in
+    let t2 = simp (c .before .before .before .before .before .before .before .before .fits3 .ensures, c .before .before .before .before .before .before .before .before .before .before .before .fits2 .ensures) at (c .before .before .before .before .before .before .before .if2 .left) in
+    let t3 = simp (c .before .before .before .before .before .fits4 .ensures, c .before .before .before .before .before .before .before .before .fits3 .ensures, c .before .before .before .before .before .before .before .before .before .before .before .fits2 .ensures) at (c .before .before .before .before .if3 .taken) in
+    simp (t1, t2, t3, c .number-at5 .ensures, c .before .dir-at .ensures, c .before .before .point-at2 .ensures, c .before .before .before .number-at4 .ensures, c .before .before .before .before .before .fits4 .ensures, c .before .before .before .before .before .before .before .before .fits3 .ensures, c .before .before .before .before .before .before .before .before .before .before .before .fits2 .ensures)
+
+part-record-requires : tie.Need-part-record-requires
+part-record-requires c κs = search needs
+
+returns-4 : tie.Need-returns-4
+unfolding jointRecord
+returns-4 c =
+    let t1 = simp (c .before .before .before .before .before .before .before .before .fits2 .ensures) at (c .before .before .before .before .before .before .before .if1 .left) in
+    let t2 = simp (c .before .before .before .before .before .fits3 .ensures, c .before .before .before .before .before .before .before .before .fits2 .ensures) at (c .before .before .before .before .if2 .left) in
+    let t3 = simp (c .before .before .fits4 .ensures, c .before .before .before .before .before .fits3 .ensures, c .before .before .before .before .before .before .before .before .fits2 .ensures) at (c .before .if3 .left) in
+    simp (t1, t2, t3, c .part-record .ensures, c .before .before .fits4 .ensures, c .before .before .before .before .before .fits3 .ensures, c .before .before .before .before .before .before .before .before .fits2 .ensures)
+
+pub joint-record-spec : {M : Type 1} → statement M
+joint-record-spec =
+    tie.close
+    (tie.spec
+    slice-aggregate-fits
+    fits-requires
+    number-at-requires
+    returns
+    slice-aggregate-fits-2
+    fits-requires-2
+    number-at-requires-2
+    point-at-requires
+    number-at-requires-3
+    returns-2
+    slice-aggregate-fits-3
+    fits-requires-3
+    number-at-requires-4
+    point-at-requires-2
+    dir-at-requires
+    number-at-requires-5
+    returns-3
+    part-record-requires
+    returns-4)

@@ -1,0 +1,76 @@
+use Rattle.text.specs.Records.{outlineRecord}
+use borrow.Author.Needs.{needs}
+use Rattle.text.proofs.records.outline_record.Statement.{statement}
+use Rattle.text.proofs.records.outline_record.Tie as tie
+
+slice-aggregate-fits : tie.Need-slice-aggregate-fits
+slice-aggregate-fits c = search needs
+
+fits-requires : tie.Need-fits-requires
+fits-requires c κs = search needs
+
+point-at-requires : tie.Need-point-at-requires
+point-at-requires c κs = search needs
+
+point-at-requires-2 : tie.Need-point-at-requires-2
+point-at-requires-2 c κs = search needs
+
+returns : tie.Need-returns
+unfolding outlineRecord
+returns c =
+    let t1 = simp (c .before .before .before .fits2 .ensures) at (c .before .before .if1 .taken) in
+    simp (t1, c .point-at2 .ensures, c .before .point-at .ensures, c .before .before .before .fits2 .ensures)
+
+slice-aggregate-fits-2 : tie.Need-slice-aggregate-fits-2
+slice-aggregate-fits-2 c = search needs
+
+fits-requires-2 : tie.Need-fits-requires-2
+fits-requires-2 c κs = search needs
+
+point-at-requires-3 : tie.Need-point-at-requires-3
+point-at-requires-3 c κs = search needs
+
+real-at-requires : tie.Need-real-at-requires
+real-at-requires c κs = search needs
+
+dir-at-requires : tie.Need-dir-at-requires
+dir-at-requires c κs = search needs
+
+dir-at-requires-2 : tie.Need-dir-at-requires-2
+dir-at-requires-2 c κs = search needs
+
+returns-2 : tie.Need-returns-2
+unfolding outlineRecord
+returns-2 c =
+    let t1 = simp (c .before .before .before .before .before .before .before .before .fits2 .ensures) at (c .before .before .before .before .before .before .before .if1 .left) in
+    let t2 = simp (c .before .before .before .before .before .fits3 .ensures, c .before .before .before .before .before .before .before .before .fits2 .ensures) at (c .before .before .before .before .if2 .taken) in
+    simp (t1, t2, c .dir-at2 .ensures, c .before .dir-at .ensures, c .before .before .real-at .ensures, c .before .before .before .point-at3 .ensures, c .before .before .before .before .before .fits3 .ensures, c .before .before .before .before .before .before .before .before .fits2 .ensures)
+
+pair-record-requires : tie.Need-pair-record-requires
+pair-record-requires c κs = search needs
+
+returns-3 : tie.Need-returns-3
+unfolding outlineRecord
+returns-3 c =
+    let t1 = simp (c .before .before .before .before .before .fits2 .ensures) at (c .before .before .before .before .if1 .left) in
+    let t2 = simp (c .before .before .fits3 .ensures, c .before .before .before .before .before .fits2 .ensures) at (c .before .if2 .left) in
+    simp (t1, t2, c .pair-record .ensures, c .before .before .fits3 .ensures, c .before .before .before .before .before .fits2 .ensures)
+
+pub outline-record-spec : {M : Type 1} → statement M
+outline-record-spec =
+    tie.close
+    (tie.spec
+    slice-aggregate-fits
+    fits-requires
+    point-at-requires
+    point-at-requires-2
+    returns
+    slice-aggregate-fits-2
+    fits-requires-2
+    point-at-requires-3
+    real-at-requires
+    dir-at-requires
+    dir-at-requires-2
+    returns-2
+    pair-record-requires
+    returns-3)

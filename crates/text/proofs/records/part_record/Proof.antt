@@ -1,0 +1,157 @@
+use Rattle.text.specs.Records.{partRecord}
+use borrow.Author.Needs.{needs}
+use Rattle.text.proofs.records.part_record.Statement.{statement}
+use Rattle.text.proofs.records.part_record.Tie as tie
+
+slice-aggregate-fits : tie.Need-slice-aggregate-fits
+slice-aggregate-fits c = search needs
+
+fits-requires : tie.Need-fits-requires
+fits-requires c κs = search needs
+
+number-at-requires : tie.Need-number-at-requires
+number-at-requires c κs = search needs
+
+letter-at-requires : tie.Need-letter-at-requires
+letter-at-requires c κs = search needs
+
+role-of-requires : tie.Need-role-of-requires
+role-of-requires c κs = search needs
+
+real-at-requires : tie.Need-real-at-requires
+real-at-requires c κs = search needs
+
+real-at-requires-2 : tie.Need-real-at-requires-2
+real-at-requires-2 c κs = search needs
+
+returns : tie.Need-returns
+unfolding partRecord
+returns c =
+    let t1 = simp (c .before .before .before .before .before .before .fits2 .ensures) at (c .before .before .before .before .before .if1 .taken) in
+    simp (t1, c .real-at2 .ensures, c .before .real-at .ensures, c .before .before .role-of .ensures, c .before .before .before .letter-at .ensures, c .before .before .before .before .number-at .ensures, c .before .before .before .before .before .before .fits2 .ensures)
+
+slice-aggregate-fits-2 : tie.Need-slice-aggregate-fits-2
+slice-aggregate-fits-2 c = search needs
+
+fits-requires-2 : tie.Need-fits-requires-2
+fits-requires-2 c κs = search needs
+
+number-at-requires-2 : tie.Need-number-at-requires-2
+number-at-requires-2 c κs = search needs
+
+letter-at-requires-2 : tie.Need-letter-at-requires-2
+letter-at-requires-2 c κs = search needs
+
+role-of-requires-2 : tie.Need-role-of-requires-2
+role-of-requires-2 c κs = search needs
+
+real-at-requires-3 : tie.Need-real-at-requires-3
+real-at-requires-3 c κs = search needs
+
+returns-2 : tie.Need-returns-2
+unfolding partRecord
+returns-2 c =
+    let t1 = simp (c .before .before .before .before .before .before .before .before .fits2 .ensures) at (c .before .before .before .before .before .before .before .if1 .left) in
+    let t2 = simp (c .before .before .before .before .before .fits3 .ensures, c .before .before .before .before .before .before .before .before .fits2 .ensures) at (c .before .before .before .before .if2 .taken) in
+    simp (t1, t2, c .real-at3 .ensures, c .before .role-of2 .ensures, c .before .before .letter-at2 .ensures, c .before .before .before .number-at2 .ensures, c .before .before .before .before .before .fits3 .ensures, c .before .before .before .before .before .before .before .before .fits2 .ensures)
+
+slice-aggregate-fits-3 : tie.Need-slice-aggregate-fits-3
+slice-aggregate-fits-3 c = search needs
+
+fits-requires-3 : tie.Need-fits-requires-3
+fits-requires-3 c κs = search needs
+
+number-at-requires-3 : tie.Need-number-at-requires-3
+number-at-requires-3 c κs = search needs
+
+letter-at-requires-3 : tie.Need-letter-at-requires-3
+letter-at-requires-3 c κs = search needs
+
+role-of-requires-3 : tie.Need-role-of-requires-3
+role-of-requires-3 c κs = search needs
+
+real-at-requires-4 : tie.Need-real-at-requires-4
+real-at-requires-4 c κs = search needs
+
+returns-3 : tie.Need-returns-3
+unfolding partRecord
+returns-3 c =
+    let t1 = simp (c .before .before .before .before .before .before .before .before .before .before .before .fits2 .ensures) at (c .before .before .before .before .before .before .before .before .before .before .if1 .left) in
+    let t2 = simp (c .before .before .before .before .before .before .before .before .fits3 .ensures, c .before .before .before .before .before .before .before .before .before .before .before .fits2 .ensures) at (c .before .before .before .before .before .before .before .if2 .left) in
+    let t3 = simp (c .before .before .before .before .before .fits4 .ensures, c .before .before .before .before .before .before .before .before .fits3 .ensures, c .before .before .before .before .before .before .before .before .before .before .before .fits2 .ensures) at (c .before .before .before .before .if3 .taken) in
+    simp (t1, t2, t3, c .real-at4 .ensures, c .before .role-of3 .ensures, c .before .before .letter-at3 .ensures, c .before .before .before .number-at3 .ensures, c .before .before .before .before .before .fits4 .ensures, c .before .before .before .before .before .before .before .before .fits3 .ensures, c .before .before .before .before .before .before .before .before .before .before .before .fits2 .ensures)
+
+slice-aggregate-fits-4 : tie.Need-slice-aggregate-fits-4
+slice-aggregate-fits-4 c = search needs
+
+fits-requires-4 : tie.Need-fits-requires-4
+fits-requires-4 c κs = search needs
+
+number-at-requires-4 : tie.Need-number-at-requires-4
+number-at-requires-4 c κs = search needs
+
+letter-at-requires-4 : tie.Need-letter-at-requires-4
+letter-at-requires-4 c κs = search needs
+
+role-of-requires-4 : tie.Need-role-of-requires-4
+role-of-requires-4 c κs = search needs
+
+real-at-requires-5 : tie.Need-real-at-requires-5
+real-at-requires-5 c κs = search needs
+
+returns-4 : tie.Need-returns-4
+unfolding partRecord
+returns-4 c =
+    let t1 = simp (c .before .before .before .before .before .before .before .before .before .before .before .before .before .before .fits2 .ensures) at (c .before .before .before .before .before .before .before .before .before .before .before .before .before .if1 .left) in
+    let t2 = simp (c .before .before .before .before .before .before .before .before .before .before .before .fits3 .ensures, c .before .before .before .before .before .before .before .before .before .before .before .before .before .before .fits2 .ensures) at (c .before .before .before .before .before .before .before .before .before .before .if2 .left) in
+    let t3 = simp (c .before .before .before .before .before .before .before .before .fits4 .ensures, c .before .before .before .before .before .before .before .before .before .before .before .fits3 .ensures, c .before .before .before .before .before .before .before .before .before .before .before .before .before .before .fits2 .ensures) at (c .before .before .before .before .before .before .before .if3 .left) in
+    let t4 = simp (c .before .before .before .before .before .fits5 .ensures, c .before .before .before .before .before .before .before .before .fits4 .ensures, c .before .before .before .before .before .before .before .before .before .before .before .fits3 .ensures, c .before .before .before .before .before .before .before .before .before .before .before .before .before .before .fits2 .ensures) at (c .before .before .before .before .if4 .taken) in
+    simp (t1, t2, t3, t4, c .real-at5 .ensures, c .before .role-of4 .ensures, c .before .before .letter-at4 .ensures, c .before .before .before .number-at4 .ensures, c .before .before .before .before .before .fits5 .ensures, c .before .before .before .before .before .before .before .before .fits4 .ensures, c .before .before .before .before .before .before .before .before .before .before .before .fits3 .ensures, c .before .before .before .before .before .before .before .before .before .before .before .before .before .before .fits2 .ensures)
+
+outline-record-requires : tie.Need-outline-record-requires
+outline-record-requires c κs = search needs
+
+returns-5 : tie.Need-returns-5
+unfolding partRecord
+returns-5 c =
+    let t1 = simp (c .before .before .before .before .before .before .before .before .before .before .before .fits2 .ensures) at (c .before .before .before .before .before .before .before .before .before .before .if1 .left) in
+    let t2 = simp (c .before .before .before .before .before .before .before .before .fits3 .ensures, c .before .before .before .before .before .before .before .before .before .before .before .fits2 .ensures) at (c .before .before .before .before .before .before .before .if2 .left) in
+    let t3 = simp (c .before .before .before .before .before .fits4 .ensures, c .before .before .before .before .before .before .before .before .fits3 .ensures, c .before .before .before .before .before .before .before .before .before .before .before .fits2 .ensures) at (c .before .before .before .before .if3 .left) in
+    let t4 = simp (c .before .before .fits5 .ensures, c .before .before .before .before .before .fits4 .ensures, c .before .before .before .before .before .before .before .before .fits3 .ensures, c .before .before .before .before .before .before .before .before .before .before .before .fits2 .ensures) at (c .before .if4 .left) in
+    simp (t1, t2, t3, t4, c .outline-record .ensures, c .before .before .fits5 .ensures, c .before .before .before .before .before .fits4 .ensures, c .before .before .before .before .before .before .before .before .fits3 .ensures, c .before .before .before .before .before .before .before .before .before .before .before .fits2 .ensures)
+
+pub part-record-spec : {M : Type 1} → statement M
+part-record-spec =
+    tie.close
+    (tie.spec
+    slice-aggregate-fits
+    fits-requires
+    number-at-requires
+    letter-at-requires
+    role-of-requires
+    real-at-requires
+    real-at-requires-2
+    returns
+    slice-aggregate-fits-2
+    fits-requires-2
+    number-at-requires-2
+    letter-at-requires-2
+    role-of-requires-2
+    real-at-requires-3
+    returns-2
+    slice-aggregate-fits-3
+    fits-requires-3
+    number-at-requires-3
+    letter-at-requires-3
+    role-of-requires-3
+    real-at-requires-4
+    returns-3
+    slice-aggregate-fits-4
+    fits-requires-4
+    number-at-requires-4
+    letter-at-requires-4
+    role-of-requires-4
+    real-at-requires-5
+    returns-4
+    outline-record-requires
+    returns-5)

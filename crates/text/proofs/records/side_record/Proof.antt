@@ -1,0 +1,60 @@
+use Rattle.text.specs.Records.{sideRecord}
+use borrow.Author.Needs.{needs}
+use Rattle.text.proofs.records.side_record.Statement.{statement}
+use Rattle.text.proofs.records.side_record.Tie as tie
+
+slice-aggregate-fits : tie.Need-slice-aggregate-fits
+slice-aggregate-fits c = search needs
+
+fits-requires : tie.Need-fits-requires
+fits-requires c κs = search needs
+
+range-at-requires : tie.Need-range-at-requires
+range-at-requires c κs = search needs
+
+returns : tie.Need-returns
+unfolding sideRecord
+returns c =
+    let t1 = simp (c .before .before .fits2 .ensures) at (c .before .if1 .taken) in
+    simp (t1, c .range-at .ensures, c .before .before .fits2 .ensures)
+
+slice-aggregate-fits-2 : tie.Need-slice-aggregate-fits-2
+slice-aggregate-fits-2 c = search needs
+
+fits-requires-2 : tie.Need-fits-requires-2
+fits-requires-2 c κs = search needs
+
+range-at-requires-2 : tie.Need-range-at-requires-2
+range-at-requires-2 c κs = search needs
+
+returns-2 : tie.Need-returns-2
+unfolding sideRecord
+returns-2 c =
+    let t1 = simp (c .before .before .before .before .before .fits2 .ensures) at (c .before .before .before .before .if1 .left) in
+    let t2 = simp (c .before .before .fits3 .ensures, c .before .before .before .before .before .fits2 .ensures) at (c .before .if2 .taken) in
+    simp (t1, t2, c .range-at2 .ensures, c .before .before .fits3 .ensures, c .before .before .before .before .before .fits2 .ensures)
+
+end-record-requires : tie.Need-end-record-requires
+end-record-requires c κs = search needs
+
+returns-3 : tie.Need-returns-3
+unfolding sideRecord
+returns-3 c =
+    let t1 = simp (c .before .before .before .before .before .fits2 .ensures) at (c .before .before .before .before .if1 .left) in
+    let t2 = simp (c .before .before .fits3 .ensures, c .before .before .before .before .before .fits2 .ensures) at (c .before .if2 .left) in
+    simp (t1, t2, c .end-record .ensures, c .before .before .fits3 .ensures, c .before .before .before .before .before .fits2 .ensures)
+
+pub side-record-spec : {M : Type 1} → statement M
+side-record-spec =
+    tie.close
+    (tie.spec
+    slice-aggregate-fits
+    fits-requires
+    range-at-requires
+    returns
+    slice-aggregate-fits-2
+    fits-requires-2
+    range-at-requires-2
+    returns-2
+    end-record-requires
+    returns-3)
