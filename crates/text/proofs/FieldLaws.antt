@@ -18,7 +18,8 @@ use Rattle.text.specs.Pieces.{split}
 use Rattle.text.proofs.Lists.{all-yes, all-no, all-done, fold-turn, fold-done}
 use Rattle.text.proofs.Pieces.{Piece, at-least-one}
 use Rattle.text.specs.Fields.{isDigit, written, tens, decimal, numberOf, isHex, hexOf, sixteens, pattern, floatOf, isKind, fitsForm, fieldAt}
-use Rattle.text.specs.declared.fields.Whole.the-variants.{Got, Bad}
+use Rattle.text.specs.declared.fields.Whole.the-variants.{Number, NoNumber}
+use Rattle.text.specs.declared.fields.Real.the-variants.{Value, NoValue}
 
 -- a number only grows with more digits
 pub decimal-grows : (ds : List ℕ) (v : ℕ) → v ≤ foldOf tens v ds
@@ -49,7 +50,7 @@ pub record Digits (f : List ℕ) (i v : ℕ) : Type 0 where
   pub all : allOf isDigit (drop i f) ≡ allOf isDigit f
   pub value : foldOf tens v (drop i f) ≡ decimal f
 
-pub not-written : (f : List ℕ) → written f ≡ false → Bad ≡ numberOf f
+pub not-written : (f : List ℕ) → written f ≡ false → NoNumber ≡ numberOf f
 unfolding numberOf
 not-written f e = sym (cond-no _ _ (and-no _ e))
 
@@ -59,14 +60,14 @@ module _ (f : List ℕ) where
   digits-start e = record { far = omega arith; good = e; small = omega arith; all = refl; value = refl }
 
 module _ (f : List ℕ) (i v : ℕ) (h : i < length f) (d : Digits f i v) where
-  pub not-digit : isDigit (getD f i 0) ≡ false → Bad ≡ numberOf f
+  pub not-digit : isDigit (getD f i 0) ≡ false → NoNumber ≡ numberOf f
   unfolding numberOf
   not-digit e = sym (cond-no _ _ (no-and (written f) (and-no _ (sym (d .all) ∙ all-no isDigit f i h e))))
 
   grown : foldOf tens (tens v (getD f i 0)) (drop (i + 1) f) ≡ decimal f
   grown = sym (fold-turn tens v f i h) ∙ d .value
 
-  pub too-large : 65535 < tens v (getD f i 0) → Bad ≡ numberOf f
+  pub too-large : 65535 < tens v (getD f i 0) → NoNumber ≡ numberOf f
   unfolding numberOf
   too-large l =
       let g : 65535 < decimal f = omega (arith, decimal-grows (drop (i + 1) f) (tens v (getD f i 0)), grown) in
@@ -75,13 +76,13 @@ module _ (f : List ℕ) (i v : ℕ) (h : i < length f) (d : Digits f i v) where
   pub digits-more : isDigit (getD f i 0) ≡ true → tens v (getD f i 0) ≤ 65535 → Digits f (i + 1) (tens v (getD f i 0))
   digits-more e l = record { far = omega arith; good = d .good; small = l; all = sym (all-yes isDigit f i h e) ∙ d .all; value = grown }
 
-pub digits-end : (f : List ℕ) (i v : ℕ) → length f ≤ i → Digits f i v → Got v ≡ numberOf f
+pub digits-end : (f : List ℕ) (i v : ℕ) → length f ≤ i → Digits f i v → Number v ≡ numberOf f
 unfolding numberOf
 digits-end f i v h d =
     let a : allOf isDigit f ≡ true = sym (d .all) ∙ all-done isDigit f i h in
     let e : v ≡ decimal f = sym (fold-done tens v f i h) ∙ d .value in
     let s : leb (decimal f) 65535 ≡ true = ap (λ (n : ℕ). leb n 65535) (sym e) ∙ le-leb v 65535 (d .small) in
-    ap Got e ∙ sym (cond-yes _ _ (and-yes _ (d .good) ∙ and-yes _ a ∙ s))
+    ap Number e ∙ sym (cond-yes _ _ (and-yes _ (d .good) ∙ and-yes _ a ∙ s))
 
 -- ---- a float that has been read up to k, and whose pattern is v so far
 pub record Hexes (f : List ℕ) (k v : ℕ) : Type 0 where
@@ -91,7 +92,7 @@ pub record Hexes (f : List ℕ) (k v : ℕ) : Type 0 where
   pub all : allOf isHex (drop k f) ≡ allOf isHex f
   pub value : foldOf sixteens v (drop k f) ≡ pattern f
 
-pub not-sixteen : (f : List ℕ) → (length f ≡ 16 → ⊥) → BadR ≡ floatOf f
+pub not-sixteen : (f : List ℕ) → (length f ≡ 16 → ⊥) → NoValue ≡ floatOf f
 unfolding floatOf
 not-sixteen f e = sym (cond-no _ _ (and-no _ (ne-eqb (length f) 16 e)))
 
@@ -100,7 +101,7 @@ unfolding pattern
 hexes-start f e = record { far = omega arith; long = e; small = omega arith; all = refl; value = refl }
 
 module _ (f : List ℕ) (k v : ℕ) (h : k < length f) (d : Hexes f k v) where
-  pub not-hex : isHex (getD f k 0) ≡ false → BadR ≡ floatOf f
+  pub not-hex : isHex (getD f k 0) ≡ false → NoValue ≡ floatOf f
   unfolding floatOf
   not-hex e = sym (cond-no _ _ (no-and (eqb (length f) 16) (sym (d .all) ∙ all-no isHex f k h e)))
 
@@ -116,12 +117,12 @@ module _ (f : List ℕ) (k v : ℕ) (h : k < length f) (d : Hexes f k v) where
   pub hexes-room : v < 2 ^ 60
   hexes-room = hex-room v k (d .small) (omega (arith, d .long))
 
-pub hexes-end : (f : List ℕ) (k v : ℕ) (x : Float) → length f ≤ k → Hexes f k v → x ≡ ofBits binary64 v → GotR x ≡ floatOf f
+pub hexes-end : (f : List ℕ) (k v : ℕ) (x : Float) → length f ≤ k → Hexes f k v → x ≡ ofBits binary64 v → Value x ≡ floatOf f
 unfolding floatOf
 hexes-end f k v x h d o =
     let a : allOf isHex f ≡ true = sym (d .all) ∙ all-done isHex f k h in
     let e : v ≡ pattern f = sym (fold-done sixteens v f k h) ∙ d .value in
-    ap GotR (o ∙ ap (ofBits binary64) e) ∙ sym (cond-yes _ _ (and-yes _ (eq-eqb (length f) 16 (d .long)) ∙ a))
+    ap Value (o ∙ ap (ofBits binary64) e) ∙ sym (cond-yes _ _ (and-yes _ (eq-eqb (length f) 16 (d .long)) ∙ a))
 
 -- ---- a line of which j fields fit, the next starting at `at`
 pub record Fitting (line form : List ℕ) (at j : ℕ) : Type 0 where

@@ -7,7 +7,8 @@ use lib.ListN.{getD, length}
 use lib.Ieee.{Float, ofBits, binary64}
 use Rattle.text.specs.Lists.{allOf, foldOf}
 use Rattle.text.specs.declared.fields.Whole.{Whole}
-use Rattle.text.specs.declared.fields.Whole.the-variants.{Got, Bad}
+use Rattle.text.specs.declared.fields.Whole.the-variants.{Number, NoNumber}
+use Rattle.text.specs.declared.fields.Real.the-variants.{Value, NoValue}
 use Rattle.text.specs.declared.fields.Real.{Real}
 
 abbrev pub isDigit : ℕ → Bool
@@ -26,7 +27,7 @@ decimal f = foldOf tens 0 f
 
 -- the whole number that a field is: decimal, no leading zero, at most 65,535
 unfoldable pub numberOf : List ℕ → Whole
-numberOf f = cond (written f && (allOf isDigit f && leb (decimal f) 65535)) (Got (decimal f)) Bad
+numberOf f = cond (written f && (allOf isDigit f && leb (decimal f) 65535)) (Number (decimal f)) NoNumber
 
 abbrev pub isHex : ℕ → Bool
 isHex b = isDigit b || (leb 97 b && leb b 102)
@@ -43,27 +44,27 @@ pattern f = foldOf sixteens 0 f
 
 -- the float that a field is: sixteen lowercase hexadecimal digits of its bits
 unfoldable pub floatOf : List ℕ → Real
-floatOf f = cond (eqb (length f) 16 && allOf isHex f) (GotR (ofBits binary64 (pattern f))) BadR
+floatOf f = cond (eqb (length f) 16 && allOf isHex f) (Value (ofBits binary64 (pattern f))) NoValue
 
 -- the letter that a field is, or 0
 unfoldable pub letterOf : List ℕ → ℕ
 letterOf f = cond (eqb (length f) 1) (getD f 0 0) 0
 
 abbrev pub isWhole : Whole → Bool
-isWhole (Got v) = true
-isWhole Bad = false
+isWhole (Number v) = true
+isWhole NoNumber = false
 
 abbrev pub wholeOr0 : Whole → ℕ
-wholeOr0 (Got v) = v
-wholeOr0 Bad = 0
+wholeOr0 (Number v) = v
+wholeOr0 NoNumber = 0
 
 abbrev pub isReal : Real → Bool
-isReal (GotR v) = true
-isReal BadR = false
+isReal (Value v) = true
+isReal NoValue = false
 
 abbrev pub realOr0 : Real → Float
-realOr0 (GotR v) = v
-realOr0 BadR = ofBits binary64 0
+realOr0 (Value v) = v
+realOr0 NoValue = ofBits binary64 0
 
 -- S solid, C cut, L lining
 abbrev pub isRole : ℕ → Bool

@@ -7,14 +7,14 @@ ghost use Rattle.text.specs.Fields.{isDigit, written, numberOf, hexOf, i
 
 // A whole number that was read.
 pub enum Whole {
-    Got(usize),
-    Bad,
+    Number(usize),
+    NoNumber,
 }
 
 // A float that was read.
 pub enum Real {
-    Got(f64),
-    Bad,
+    Value(f64),
+    NoValue,
 }
 
 // The end of the piece that starts at `at`: the next byte c, or the end of the text.
@@ -52,22 +52,22 @@ pub fn number_of(f: &[u8]) -> Whole
     ensures { λ r. ⌜ r ≡ numberOf (now (f .entry)) ⌝ }
 {
     if !well_written(f) {
-        return Whole::Bad;
+        return Whole::NoNumber;
     }
     let mut v: usize = 0;
     let mut i: usize = 0;
     while i < f.len() {
         let b = f[i];
         if !is_digit(b) {
-            return Whole::Bad;
+            return Whole::NoNumber;
         }
         v = v * 10 + (b as usize - 48);
         if 65535 < v {
-            return Whole::Bad;
+            return Whole::NoNumber;
         }
         i += 1;
     }
-    Whole::Got(v)
+    Whole::Number(v)
 }
 
 fn is_hex(b: u8) -> bool
@@ -91,19 +91,19 @@ pub fn real_of(f: &[u8]) -> Real
     ensures { λ r. ⌜ r ≡ floatOf (now (f .entry)) ⌝ }
 {
     if f.len() != 16 {
-        return Real::Bad;
+        return Real::NoValue;
     }
     let mut v: u64 = 0;
     let mut k: usize = 0;
     while k < f.len() {
         let b = f[k];
         if !is_hex(b) {
-            return Real::Bad;
+            return Real::NoValue;
         }
         v = v * 16 + hex_value(b);
         k += 1;
     }
-    Real::Got(ieee::bits::of_pattern(v))
+    Real::Value(ieee::bits::of_pattern(v))
 }
 
 // The letter that a field is, or 0.
@@ -120,8 +120,8 @@ fn is_whole(w: Whole) -> bool
     ensures { λ r. ⌜ r ≡ isWhole w ⌝ }
 {
     match w {
-        Whole::Got(_) => true,
-        Whole::Bad => false,
+        Whole::Number(_) => true,
+        Whole::NoNumber => false,
     }
 }
 
@@ -129,8 +129,8 @@ fn whole_or_0(w: Whole) -> usize
     ensures { λ r. ⌜ r ≡ wholeOr0 w ⌝ }
 {
     match w {
-        Whole::Got(v) => v,
-        Whole::Bad => 0,
+        Whole::Number(v) => v,
+        Whole::NoNumber => 0,
     }
 }
 
@@ -138,8 +138,8 @@ fn is_real(w: Real) -> bool
     ensures { λ r. ⌜ r ≡ isReal w ⌝ }
 {
     match w {
-        Real::Got(_) => true,
-        Real::Bad => false,
+        Real::Value(_) => true,
+        Real::NoValue => false,
     }
 }
 
@@ -147,8 +147,8 @@ fn real_or_0(w: Real) -> f64
     ensures { λ r. ⌜ r ≡ realOr0 w ⌝ }
 {
     match w {
-        Real::Got(v) => v,
-        Real::Bad => 0.0,
+        Real::Value(v) => v,
+        Real::NoValue => 0.0,
     }
 }
 
