@@ -17,7 +17,7 @@ use Rattle.text.specs.Lists.{allOf, foldOf}
 use Rattle.text.specs.Pieces.{split}
 use Rattle.text.proofs.Lists.{all-yes, all-no, all-done, fold-turn, fold-done}
 use Rattle.text.proofs.Pieces.{Piece, at-least-one}
-use Rattle.text.specs.Fields.{isDigit, written, tens, decimal, numberOf, isHex, hexOf, sixteens, pattern, floatOf, isKind, fitsForm, fieldAt}
+use Rattle.text.specs.Fields.{isDigit, written, tens, decimal, numberOf, wholeOr0, isHex, hexOf, sixteens, pattern, floatOf, isKind, fitsForm, fieldAt}
 use Rattle.text.specs.declared.fields.Whole.the-variants.{Number, NoNumber}
 use Rattle.text.specs.declared.fields.Real.the-variants.{Value, NoValue}
 
@@ -83,6 +83,20 @@ digits-end f i v h d =
     let e : v ≡ decimal f = sym (fold-done tens v f i h) ∙ d .value in
     let s : leb (decimal f) 65535 ≡ true = ap (λ (n : ℕ). leb n 65535) (sym e) ∙ le-leb v 65535 (d .small) in
     ap Number e ∙ sym (cond-yes _ _ (and-yes _ (d .good) ∙ and-yes _ a ∙ s))
+
+-- a whole number is at most 65,535
+pub number-small : (f : List ℕ) → wholeOr0 (numberOf f) ≤ 65535
+unfolding numberOf
+number-small f = go (written f && (allOf isDigit f && leb (decimal f) 65535)) refl
+  where
+    go : (t : Bool) → (written f && (allOf isDigit f && leb (decimal f) 65535)) ≡ t → wholeOr0 (numberOf f) ≤ 65535
+    go true e =
+        let h = both (allOf isDigit f) (leb (decimal f) 65535) (both (written f) _ e .1) in
+        let q : numberOf f ≡ Number (decimal f) = cond-yes _ _ e in
+        omega (arith, leb-true (decimal f) 65535 (h .1), ap wholeOr0 q)
+    go false e =
+        let q : numberOf f ≡ NoNumber = cond-no _ _ e in
+        omega (arith, ap wholeOr0 q)
 
 -- ---- a float that has been read up to k, and whose pattern is v so far
 pub record Hexes (f : List ℕ) (k v : ℕ) : Type 0 where

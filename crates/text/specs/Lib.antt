@@ -1,3 +1,4 @@
+pub mod Letters
 pub mod Lists
 pub mod Pieces
 pub mod Fields

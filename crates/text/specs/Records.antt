@@ -13,65 +13,12 @@ use Rattle.mechanism.specs.declared.part.Role.the-variants.{Solid, Cut, Lining}
 use Rattle.mechanism.specs.declared.part.Sweep.the-variants.{Extruded, Revolved, Milled, Oval}
 use Rattle.mechanism.specs.declared.part.SurfaceRef.{SurfaceRef}
 use Rattle.mechanism.specs.declared.pair.PairGeometry.the-variants.{Features, CenterBearing}
+use Rattle.text.specs.Letters.{A, B, C, E, F, G, J, K, L, M, O, P, R, S, T, n, f, r}
 use Rattle.text.specs.Fields.{fitsForm, numberAt, realAt, letterAt}
 use Rattle.text.specs.declared.records.Record.{Record}
 use Rattle.text.specs.declared.records.Record.the-variants.{Coords, Joined, Drawn, Edge, Paired, OnA, OnB, Margin, Turned, Malformed}
 
--- the letters of forms: n a whole number, f a float, r a role's letter S, C or L; a capital letter is that letter
-abbrev A : ℕ
-A = 65
-
-abbrev B : ℕ
-B = 66
-
-abbrev C : ℕ
-C = 67
-
-abbrev E : ℕ
-E = 69
-
-abbrev F : ℕ
-F = 70
-
-abbrev G : ℕ
-G = 71
-
-abbrev J : ℕ
-J = 74
-
-abbrev K : ℕ
-K = 75
-
-abbrev L : ℕ
-L = 76
-
-abbrev M : ℕ
-M = 77
-
-abbrev O : ℕ
-O = 79
-
-abbrev P : ℕ
-P = 80
-
-abbrev R : ℕ
-R = 82
-
-abbrev S : ℕ
-S = 83
-
-abbrev T : ℕ
-T = 84
-
-abbrev n : ℕ
-n = 110
-
-abbrev f : ℕ
-f = 102
-
-abbrev r : ℕ
-r = 114
-
+-- In a form, n is a whole number, f a float, r a role's letter S, C or L; a capital letter is that letter.
 module _ (fs : List (List ℕ)) where
   abbrev pub pointAt : ℕ → Point
   pointAt j = record { x = realAt fs j; y = realAt fs (j + 1) }

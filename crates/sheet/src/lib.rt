@@ -1,0 +1,149 @@
+// The reader of the sheet text (document 01, "The sheet text").
+mod draft;
+mod grammar;
+mod limits;
+
+use draft::Draft;
+use limits::Tally;
+use mechanism::Bodies;
+use mechanism::Checked;
+use mechanism::Mechanism;
+use mechanism::Outlines;
+use mechanism::Pairs;
+use mechanism::Parts;
+use mechanism::Problem;
+use mechanism::part::OutlineSeg;
+use mechanism::pose::Entry;
+ghost use mathlib.Core.Path.{_≡_};
+ghost use Prim.Native.Nat.{_≤_};
+ghost use lib.ListN.{length};
+ghost use Rattle.sheet.specs.Read.{accepted, refused, ended, linesOf, sheetOf};
+
+// What a text gives for each coordinate, T line by T line. Entries past sixteen are not kept, and a count of seventeen stands for any above sixteen.
+pub struct Entries {
+    pub count: usize,
+    pub entry: [Entry; 16],
+}
+
+// What a text says: whether it is accepted, and if so the description, the margin and the entries of the pose. With a refusal come blank ones.
+pub struct Sheet {
+    pub checked: Checked,
+    pub mechanism: Mechanism,
+    pub margin: f64,
+    pub entries: Entries,
+}
+
+// The description that was read.
+fn accept(t: Tally, d: Draft, seg: [OutlineSeg; 384]) -> Sheet
+    ensures { λ r. ⌜ r ≡ accepted t d seg ⌝ }
+{
+    let body = d.body;
+    let part = d.part;
+    let pair = d.pair;
+    let entries = d.entries;
+    Sheet {
+        checked: Checked::Accepted,
+        mechanism: Mechanism {
+            bodies: Bodies {
+                coords: t.coords,
+                count: t.bodies,
+                body,
+            },
+            parts: Parts {
+                count: t.parts,
+                part,
+            },
+            outlines: Outlines { seg },
+            pairs: Pairs {
+                count: t.pairs,
+                pair,
+            },
+        },
+        margin: d.margin,
+        entries,
+    }
+}
+
+fn refuse(p: Problem) -> Sheet
+    ensures { λ r. ⌜ r ≡ refused p ⌝ }
+{
+    let g = draft::no_seg();
+    let seg = [g; 384];
+    let s = accept(limits::no_lines(), draft::no_draft(), seg);
+    let mechanism = s.mechanism;
+    let entries = s.entries;
+    Sheet {
+        checked: Checked::Refused(p),
+        mechanism,
+        margin: s.margin,
+        entries,
+    }
+}
+
+// The end of a text: whether it may end there, the line after its last, and whether it kept within the limits.
+fn end(whole: bool, line: usize, good: bool, t: Tally, d: Draft, seg: [OutlineSeg; 384]) -> Sheet
+    ensures { λ r. ⌜ r ≡ ended whole line good (accepted t d seg) ⌝ }
+{
+    if whole {
+        if good {
+            return accept(t, d, seg);
+        }
+        return refuse(Problem::LimitPassed);
+    }
+    refuse(Problem::LineNotRead { line })
+}
+
+// Line by line. After a limit is passed only the order of lines is looked at.
+fn read_lines(text: &[u8]) -> Sheet
+    requires { ⌜ length (now text) ≤ 65536 ⌝ }
+    ensures { λ r. ⌜ r ≡ linesOf (now (text .entry)) ⌝ }
+{
+    let g = draft::no_seg();
+    let mut seg = [g; 384];
+    let mut made = draft::no_draft();
+    let mut tally = limits::no_lines();
+    let mut good = true;
+    let mut headed = false;
+    let mut stage: u8 = 0;
+    let mut n: usize = 1;
+    let mut at: usize = 0;
+    loop {
+        let e = text::fields::find(text, at, 10);
+        let line = &text[at..e];
+        if e == text.len() {
+            let whole = grammar::may_end(line.len(), headed, stage);
+            return end(whole, n, good, tally, made, seg);
+        }
+        let r = text::records::record_of(line);
+        if !grammar::may_follow(stage, r) {
+            return refuse(Problem::LineNotRead { line: n });
+        }
+        let kind = grammar::kind_of(r);
+        headed = headed | (kind == b'M');
+        stage = grammar::stage_after(r);
+        n += 1;
+        at = e + 1;
+        if good {
+            let t = tally;
+            tally = limits::count(t, r);
+            good = limits::within(tally);
+            if good {
+                made = draft::put(made, t, r);
+                if kind == b'L' {
+                    let i = t.segs;
+                    seg[i] = draft::edge_of(r);
+                }
+            }
+        }
+    }
+}
+
+// What a sheet text says.
+pub fn read(text: &[u8]) -> Sheet
+    ensures { λ r. ⌜ r ≡ sheetOf (now (text .entry)) ⌝ }
+{
+    if 65536 < text.len() {
+        return refuse(Problem::TextTooLong);
+    }
+    read_lines(text)
+}
