@@ -7,9 +7,8 @@ use mathlib.Core.List.{List, [], _∷_}
 use lib.Dec.{leb}
 use borrow.Author.Tests.{leb-true}
 use Rattle.laws.proofs.Choice.{both}
-use Rattle.text.specs.Letters.{A, B, C, E, F, G, J, K, L, M, O, P, R, S, T, n, f, r}
-use Rattle.text.specs.Fields.{fitsForm, fieldAt}
-use Rattle.text.specs.Records.{endRecord, sideRecord, pairRecord, outlineRecord, partRecord, jointRecord, recordOf}
+use Rattle.text.specs.Fields.{fitsForm, fieldAt, numberAt}
+use Rattle.text.specs.Records.{Form, forms, firstFit, recordOf}
 use Rattle.text.proofs.FieldLaws.{number-small}
 use Rattle.text.specs.declared.records.Record.{Record}
 use Rattle.text.specs.declared.records.Record.the-variants.{Coords, Joined, Drawn, Edge, Paired, OnA, OnB, Margin, Turned, Malformed}
@@ -62,45 +61,22 @@ room t (Margin m) w = tt
 room t (Turned e) w = tt
 room t Malformed w = tt
 
--- ---- the ranges of a text
-record Short (r : Record) : Type 0 where
-  is : Narrow r
+-- ---- the ranges of a text: every form of the table makes a narrow record
+abbrev Narrows : List Form → Type 0
+Narrows [] = Unit {0}
+Narrows (x ∷ xs) = ((fs : List (List ℕ)) → Narrow (x .make fs)) × Narrows xs
 
-pick : (b : Bool) {x y : Record} → Short x → Short y → Short (cond b x y)
-pick true p q = p
-pick false p q = q
+either : (b : Bool) (x y : Record) → Narrow x → Narrow y → Narrow (cond b x y)
+either true x y p q = p
+either false x y p q = q
 
-side-short : (fs : List (List ℕ)) → Short (sideRecord fs)
-unfolding sideRecord endRecord
-side-short fs =
-    pick (fitsForm (S ∷ A ∷ n ∷ n ∷ n ∷ []) fs) (record { is = number-small (fieldAt fs 4) })
-    (pick (fitsForm (S ∷ B ∷ n ∷ n ∷ n ∷ []) fs) (record { is = number-small (fieldAt fs 4) })
-    (pick (fitsForm (G ∷ f ∷ []) fs) (record { is = tt })
-    (pick (fitsForm (T ∷ f ∷ f ∷ f ∷ []) fs) (record { is = tt }) (record { is = tt }))))
+narrow-fit : (xs : List Form) → Narrows xs → (fs : List (List ℕ)) → Narrow (firstFit xs fs)
+unfolding firstFit
+narrow-fit [] w fs = tt
+narrow-fit (x ∷ xs) w fs = either (fitsForm (x .shape) fs) (x .make fs) (firstFit xs fs) (w .0 fs) (narrow-fit xs (w .1) fs)
 
-pair-short : (fs : List (List ℕ)) → Short (pairRecord fs)
-unfolding pairRecord
-pair-short fs =
-    pick (fitsForm (K ∷ F ∷ []) fs) (record { is = tt })
-    (pick (fitsForm (K ∷ C ∷ []) fs) (record { is = tt }) (side-short fs))
-
-part-short : (fs : List (List ℕ)) → Short (partRecord fs)
-unfolding partRecord outlineRecord
-part-short fs =
-    pick (fitsForm (P ∷ n ∷ r ∷ E ∷ f ∷ f ∷ []) fs) (record { is = tt })
-    (pick (fitsForm (P ∷ n ∷ r ∷ R ∷ f ∷ []) fs) (record { is = tt })
-    (pick (fitsForm (P ∷ n ∷ r ∷ M ∷ f ∷ []) fs) (record { is = tt })
-    (pick (fitsForm (P ∷ n ∷ r ∷ O ∷ f ∷ []) fs) (record { is = tt })
-    (pick (fitsForm (L ∷ f ∷ f ∷ f ∷ f ∷ []) fs) (record { is = tt })
-    (pick (fitsForm (A ∷ f ∷ f ∷ f ∷ f ∷ f ∷ f ∷ f ∷ []) fs) (record { is = tt }) (pair-short fs))))))
-
-record-short : (fs : List (List ℕ)) → Short (recordOf fs)
-unfolding recordOf jointRecord
-record-short fs =
-    pick (fitsForm (M ∷ n ∷ []) fs) (record { is = tt })
-    (pick (fitsForm (J ∷ G ∷ n ∷ []) fs) (record { is = tt })
-    (pick (fitsForm (J ∷ R ∷ n ∷ n ∷ f ∷ f ∷ []) fs) (record { is = tt })
-    (pick (fitsForm (J ∷ P ∷ n ∷ n ∷ f ∷ f ∷ f ∷ f ∷ []) fs) (record { is = tt }) (part-short fs))))
+end-small : (fs : List (List ℕ)) → numberAt fs 4 ≤ 65535
+end-small fs = number-small (fieldAt fs 4)
 
 pub narrow : (fs : List (List ℕ)) → Narrow (recordOf fs)
-narrow fs = record-short fs .is
+narrow = narrow-fit forms ((λ _. tt), ((λ _. tt), ((λ _. tt), ((λ _. tt), ((λ _. tt), ((λ _. tt), ((λ _. tt), ((λ _. tt), ((λ _. tt), ((λ _. tt), ((λ _. tt), ((λ _. tt), (end-small, (end-small, ((λ _. tt), ((λ _. tt), tt))))))))))))))))

@@ -1,4 +1,4 @@
--- The record that a line is, by its fields: the first form that they fit says. Definitions only.
+-- The record that a line is, by its fields: the table of forms. Definitions only.
 use Prim.Native.Nat.{ℕ, _+_}
 use mathlib.Core.Bool.{cond}
 use mathlib.Core.List.{List, [], _∷_}
@@ -7,9 +7,11 @@ use Rattle.geometry.specs.Geometry.{dirOf, dirOr}
 use Rattle.geometry.specs.declared.Point.{Point}
 use Rattle.geometry.specs.declared.Dir.{Dir}
 use Rattle.geometry.specs.declared.Seg.the-variants.{Line, Arc}
+use Rattle.mechanism.specs.declared.Joint.{Joint}
 use Rattle.mechanism.specs.declared.Joint.the-variants.{Ground, Revolute, Prismatic}
 use Rattle.mechanism.specs.declared.part.Role.{Role}
 use Rattle.mechanism.specs.declared.part.Role.the-variants.{Solid, Cut, Lining}
+use Rattle.mechanism.specs.declared.part.Sweep.{Sweep}
 use Rattle.mechanism.specs.declared.part.Sweep.the-variants.{Extruded, Revolved, Milled, Oval}
 use Rattle.mechanism.specs.declared.part.SurfaceRef.{SurfaceRef}
 use Rattle.mechanism.specs.declared.pair.PairGeometry.the-variants.{Features, CenterBearing}
@@ -18,7 +20,6 @@ use Rattle.text.specs.Fields.{fitsForm, numberAt, realAt, letterAt}
 use Rattle.text.specs.declared.records.Record.{Record}
 use Rattle.text.specs.declared.records.Record.the-variants.{Coords, Joined, Drawn, Edge, Paired, OnA, OnB, Margin, Turned, Malformed}
 
--- In a form, n is a whole number, f a float, r a role's letter S, C or L; a capital letter is that letter.
 module _ (fs : List (List ℕ)) where
   abbrev pub pointAt : ℕ → Point
   pointAt j = record { x = realAt fs j; y = realAt fs (j + 1) }
@@ -33,51 +34,68 @@ module _ (fs : List (List ℕ)) where
 abbrev pub roleOf : ℕ → Role
 roleOf b = cond (eqb b S) Solid (cond (eqb b C) Cut Lining)
 
--- G and T
-unfoldable pub endRecord : List (List ℕ) → Record
-endRecord fs =
-    cond (fitsForm (G ∷ f ∷ []) fs) (Margin (realAt fs 1))
-    (cond (fitsForm (T ∷ f ∷ f ∷ f ∷ []) fs) (Turned (record { value = realAt fs 1; sine = realAt fs 2; cosine = realAt fs 3 }))
-    Malformed)
+-- ---- the table of forms
+-- n is a whole number, f a float, r a role's letter S, C or L; a capital letter is that letter. Beside a form, the record of the fields that fit it.
+pub record Form : Type 0 where
+  pub shape : List ℕ
+  pub make : List (List ℕ) → Record
 
--- S
-unfoldable pub sideRecord : List (List ℕ) → Record
-sideRecord fs =
-    cond (fitsForm (S ∷ A ∷ n ∷ n ∷ n ∷ []) fs) (OnA (rangeAt fs))
-    (cond (fitsForm (S ∷ B ∷ n ∷ n ∷ n ∷ []) fs) (OnB (rangeAt fs))
-    (endRecord fs))
+abbrev form : List ℕ → (List (List ℕ) → Record) → Form
+form s m = record { shape = s; make = m }
 
--- K
-unfoldable pub pairRecord : List (List ℕ) → Record
-pairRecord fs =
-    cond (fitsForm (K ∷ F ∷ []) fs) (Paired Features)
-    (cond (fitsForm (K ∷ C ∷ []) fs) (Paired CenterBearing)
-    (sideRecord fs))
+abbrev body : (List (List ℕ) → Joint) → List (List ℕ) → Record
+body m fs = Joined (record { parent = numberAt fs 2; joint = m fs })
 
--- L and A
-unfoldable pub outlineRecord : List (List ℕ) → Record
-outlineRecord fs =
-    cond (fitsForm (L ∷ f ∷ f ∷ f ∷ f ∷ []) fs) (Edge (Line (pointAt fs 1) (pointAt fs 3)))
-    (cond (fitsForm (A ∷ f ∷ f ∷ f ∷ f ∷ f ∷ f ∷ f ∷ []) fs) (Edge (Arc (pointAt fs 1) (realAt fs 3) (dirAt fs 4) (dirAt fs 6)))
-    (pairRecord fs))
+abbrev part : (List (List ℕ) → Sweep) → List (List ℕ) → Record
+part m fs = Drawn (numberAt fs 1) (roleOf (letterAt fs 2)) (m fs)
 
--- P
-unfoldable pub partRecord : List (List ℕ) → Record
-partRecord fs =
-    cond (fitsForm (P ∷ n ∷ r ∷ E ∷ f ∷ f ∷ []) fs) (Drawn (numberAt fs 1) (roleOf (letterAt fs 2)) (Extruded (realAt fs 4) (realAt fs 5)))
-    (cond (fitsForm (P ∷ n ∷ r ∷ R ∷ f ∷ []) fs) (Drawn (numberAt fs 1) (roleOf (letterAt fs 2)) (Revolved (realAt fs 4)))
-    (cond (fitsForm (P ∷ n ∷ r ∷ M ∷ f ∷ []) fs) (Drawn (numberAt fs 1) (roleOf (letterAt fs 2)) (Milled (realAt fs 4)))
-    (cond (fitsForm (P ∷ n ∷ r ∷ O ∷ f ∷ []) fs) (Drawn (numberAt fs 1) (roleOf (letterAt fs 2)) (Oval (realAt fs 4)))
-    (outlineRecord fs))))
+abbrev pub ends : List Form
+ends =
+    form (G ∷ f ∷ []) (λ fs. Margin (realAt fs 1))
+    ∷ form (T ∷ f ∷ f ∷ f ∷ []) (λ fs. Turned (record { value = realAt fs 1; sine = realAt fs 2; cosine = realAt fs 3 }))
+    ∷ []
 
--- J
-unfoldable pub jointRecord : List (List ℕ) → Record
-jointRecord fs =
-    cond (fitsForm (J ∷ G ∷ n ∷ []) fs) (Joined (record { parent = numberAt fs 2; joint = Ground }))
-    (cond (fitsForm (J ∷ R ∷ n ∷ n ∷ f ∷ f ∷ []) fs) (Joined (record { parent = numberAt fs 2; joint = Revolute (pointAt fs 4) (numberAt fs 3) }))
-    (cond (fitsForm (J ∷ P ∷ n ∷ n ∷ f ∷ f ∷ f ∷ f ∷ []) fs) (Joined (record { parent = numberAt fs 2; joint = Prismatic (pointAt fs 4) (dirAt fs 6) (numberAt fs 3) }))
-    (partRecord fs)))
+abbrev pub sides : List Form
+sides =
+    form (S ∷ A ∷ n ∷ n ∷ n ∷ []) (λ fs. OnA (rangeAt fs))
+    ∷ form (S ∷ B ∷ n ∷ n ∷ n ∷ []) (λ fs. OnB (rangeAt fs))
+    ∷ ends
+
+abbrev pub pairs : List Form
+pairs =
+    form (K ∷ F ∷ []) (λ fs. Paired Features)
+    ∷ form (K ∷ C ∷ []) (λ fs. Paired CenterBearing)
+    ∷ sides
+
+abbrev pub outlines : List Form
+outlines =
+    form (L ∷ f ∷ f ∷ f ∷ f ∷ []) (λ fs. Edge (Line (pointAt fs 1) (pointAt fs 3)))
+    ∷ form (A ∷ f ∷ f ∷ f ∷ f ∷ f ∷ f ∷ f ∷ []) (λ fs. Edge (Arc (pointAt fs 1) (realAt fs 3) (dirAt fs 4) (dirAt fs 6)))
+    ∷ pairs
+
+abbrev pub parts : List Form
+parts =
+    form (P ∷ n ∷ r ∷ E ∷ f ∷ f ∷ []) (part (λ fs. Extruded (realAt fs 4) (realAt fs 5)))
+    ∷ form (P ∷ n ∷ r ∷ R ∷ f ∷ []) (part (λ fs. Revolved (realAt fs 4)))
+    ∷ form (P ∷ n ∷ r ∷ M ∷ f ∷ []) (part (λ fs. Milled (realAt fs 4)))
+    ∷ form (P ∷ n ∷ r ∷ O ∷ f ∷ []) (part (λ fs. Oval (realAt fs 4)))
+    ∷ outlines
+
+abbrev pub joints : List Form
+joints =
+    form (J ∷ G ∷ n ∷ []) (body (λ fs. Ground))
+    ∷ form (J ∷ R ∷ n ∷ n ∷ f ∷ f ∷ []) (body (λ fs. Revolute (pointAt fs 4) (numberAt fs 3)))
+    ∷ form (J ∷ P ∷ n ∷ n ∷ f ∷ f ∷ f ∷ f ∷ []) (body (λ fs. Prismatic (pointAt fs 4) (dirAt fs 6) (numberAt fs 3)))
+    ∷ parts
+
+abbrev pub forms : List Form
+forms = form (M ∷ n ∷ []) (λ fs. Coords (numberAt fs 1)) ∷ joints
+
+-- the record of the first form that fits
+unfoldable pub firstFit : List Form → List (List ℕ) → Record
+firstFit [] fs = Malformed
+firstFit (x ∷ xs) fs = cond (fitsForm (x .shape) fs) (x .make fs) (firstFit xs fs)
 
 -- the record of a line's fields
-unfoldable pub recordOf : List (List ℕ) → Record
-recordOf fs = cond (fitsForm (M ∷ n ∷ []) fs) (Coords (numberAt fs 1)) (jointRecord fs)
+abbrev pub recordOf : List (List ℕ) → Record
+recordOf fs = firstFit forms fs

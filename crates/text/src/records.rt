@@ -16,7 +16,7 @@ use mechanism::pose::Entry;
 ghost use mathlib.Core.Path.{_≡_};
 ghost use Prim.Native.Nat.{_<_};
 ghost use Rattle.text.specs.Pieces.{split};
-ghost use Rattle.text.specs.Records.{pointAt, dirAt, rangeAt, roleOf, endRecord, sideRecord, pairRecord, outlineRecord, partRecord, jointRecord, recordOf};
+ghost use Rattle.text.specs.Records.{pointAt, dirAt, rangeAt, roleOf, ends, sides, pairs, outlines, parts, joints, firstFit, recordOf};
 
 pub enum Record {
     // M
@@ -90,7 +90,7 @@ fn role_of(b: u8) -> Role
 
 // The forms of G and T.
 fn end_record(line: &[u8]) -> Record
-    ensures { λ r. ⌜ r ≡ endRecord (split 44 (now (line .entry))) ⌝ }
+    ensures { λ r. ⌜ r ≡ firstFit ends (split 44 (now (line .entry))) ⌝ }
 {
     if fits(line, b"Gf") {
         return Record::Margin(real_at(line, 1));
@@ -107,7 +107,7 @@ fn end_record(line: &[u8]) -> Record
 
 // The forms of S, then those after it.
 fn side_record(line: &[u8]) -> Record
-    ensures { λ r. ⌜ r ≡ sideRecord (split 44 (now (line .entry))) ⌝ }
+    ensures { λ r. ⌜ r ≡ firstFit sides (split 44 (now (line .entry))) ⌝ }
 {
     if fits(line, b"SAnnn") {
         return Record::OnA(range_at(line));
@@ -120,7 +120,7 @@ fn side_record(line: &[u8]) -> Record
 
 // The forms of K, then those after it.
 fn pair_record(line: &[u8]) -> Record
-    ensures { λ r. ⌜ r ≡ pairRecord (split 44 (now (line .entry))) ⌝ }
+    ensures { λ r. ⌜ r ≡ firstFit pairs (split 44 (now (line .entry))) ⌝ }
 {
     if fits(line, b"KF") {
         return Record::Paired(PairGeometry::Features);
@@ -133,7 +133,7 @@ fn pair_record(line: &[u8]) -> Record
 
 // The forms of L and A, then those after them.
 fn outline_record(line: &[u8]) -> Record
-    ensures { λ r. ⌜ r ≡ outlineRecord (split 44 (now (line .entry))) ⌝ }
+    ensures { λ r. ⌜ r ≡ firstFit outlines (split 44 (now (line .entry))) ⌝ }
 {
     if fits(line, b"Lffff") {
         return Record::Edge(Seg::Line {
@@ -154,7 +154,7 @@ fn outline_record(line: &[u8]) -> Record
 
 // The forms of P, then those after it.
 fn part_record(line: &[u8]) -> Record
-    ensures { λ r. ⌜ r ≡ partRecord (split 44 (now (line .entry))) ⌝ }
+    ensures { λ r. ⌜ r ≡ firstFit parts (split 44 (now (line .entry))) ⌝ }
 {
     if fits(line, b"PnrEff") {
         return Record::Drawn {
@@ -198,7 +198,7 @@ fn part_record(line: &[u8]) -> Record
 
 // The forms of J, then those after it.
 fn joint_record(line: &[u8]) -> Record
-    ensures { λ r. ⌜ r ≡ jointRecord (split 44 (now (line .entry))) ⌝ }
+    ensures { λ r. ⌜ r ≡ firstFit joints (split 44 (now (line .entry))) ⌝ }
 {
     if fits(line, b"JGn") {
         return Record::Joined(Body {

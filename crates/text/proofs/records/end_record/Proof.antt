@@ -1,4 +1,5 @@
-use Rattle.text.specs.Records.{endRecord}
+use mathlib.Core.Path.{sym, _∙_}
+use Rattle.text.proofs.Forms.{fit-yes, fit-no, fit-none}
 use borrow.Author.Needs.{needs}
 use Rattle.text.proofs.records.end_record.Statement.{statement}
 use Rattle.text.proofs.records.end_record.Tie as tie
@@ -13,10 +14,7 @@ real-at-requires : tie.Need-real-at-requires
 real-at-requires c κs = search needs
 
 returns : tie.Need-returns
-unfolding endRecord
-returns c =
-    let t1 = simp (c .before .before .fits2 .ensures) at (c .before .if1 .taken) in
-    simp (t1, c .real-at .ensures, c .before .before .fits2 .ensures)
+returns c = simp (c .real-at .ensures) (sym (fit-yes _ _ _ (sym (c .before .before .fits2 .ensures) ∙ c .before .if1 .taken)))
 
 slice-aggregate-fits-2 : tie.Need-slice-aggregate-fits-2
 slice-aggregate-fits-2 c = search needs
@@ -34,18 +32,10 @@ real-at-requires-4 : tie.Need-real-at-requires-4
 real-at-requires-4 c κs = search needs
 
 returns-2 : tie.Need-returns-2
-unfolding endRecord
-returns-2 c =
-    let t1 = simp (c .before .before .before .before .before .before .before .fits2 .ensures) at (c .before .before .before .before .before .before .if1 .left) in
-    let t2 = simp (c .before .before .before .before .fits3 .ensures, c .before .before .before .before .before .before .before .fits2 .ensures) at (c .before .before .before .if2 .taken) in
-    simp (t1, t2, c .real-at4 .ensures, c .before .real-at3 .ensures, c .before .before .real-at2 .ensures, c .before .before .before .before .fits3 .ensures, c .before .before .before .before .before .before .before .fits2 .ensures)
+returns-2 c = simp (c .real-at4 .ensures, c .before .real-at3 .ensures, c .before .before .real-at2 .ensures) (sym (fit-no _ _ _ (sym (c .before .before .before .before .before .before .before .fits2 .ensures) ∙ c .before .before .before .before .before .before .if1 .left) ∙ fit-yes _ _ _ (sym (c .before .before .before .before .fits3 .ensures) ∙ c .before .before .before .if2 .taken)))
 
 returns-3 : tie.Need-returns-3
-unfolding endRecord
-returns-3 c =
-    let t1 = simp (c .before .before .before .before .fits2 .ensures) at (c .before .before .before .if1 .left) in
-    let t2 = simp (c .before .fits3 .ensures, c .before .before .before .before .fits2 .ensures) at (c .if2 .left) in
-    simp (t1, t2, c .before .fits3 .ensures, c .before .before .before .before .fits2 .ensures)
+returns-3 c = sym (fit-no _ _ _ (sym (c .before .before .before .before .fits2 .ensures) ∙ c .before .before .before .if1 .left) ∙ fit-no _ _ _ (sym (c .before .fits3 .ensures) ∙ c .if2 .left) ∙ fit-none _)
 
 pub end-record-spec : {M : Type 1} → statement M
 end-record-spec =

@@ -1,4 +1,5 @@
-use Rattle.text.specs.Records.{jointRecord}
+use mathlib.Core.Path.{sym, _∙_}
+use Rattle.text.proofs.Forms.{fit-yes, fit-no, fit-none}
 use borrow.Author.Needs.{needs}
 use Rattle.text.proofs.records.joint_record.Statement.{statement}
 use Rattle.text.proofs.records.joint_record.Tie as tie
@@ -13,10 +14,7 @@ number-at-requires : tie.Need-number-at-requires
 number-at-requires c κs = search needs
 
 returns : tie.Need-returns
-unfolding jointRecord
-returns c =
-    let t1 = simp (c .before .before .fits2 .ensures) at (c .before .if1 .taken) in
-    simp (t1, c .number-at .ensures, c .before .before .fits2 .ensures)
+returns c = simp (c .number-at .ensures) (sym (fit-yes _ _ _ (sym (c .before .before .fits2 .ensures) ∙ c .before .if1 .taken)))
 
 slice-aggregate-fits-2 : tie.Need-slice-aggregate-fits-2
 slice-aggregate-fits-2 c = search needs
@@ -34,11 +32,7 @@ number-at-requires-3 : tie.Need-number-at-requires-3
 number-at-requires-3 c κs = search needs
 
 returns-2 : tie.Need-returns-2
-unfolding jointRecord
-returns-2 c =
-    let t1 = simp (c .before .before .before .before .before .before .before .fits2 .ensures) at (c .before .before .before .before .before .before .if1 .left) in
-    let t2 = simp (c .before .before .before .before .fits3 .ensures, c .before .before .before .before .before .before .before .fits2 .ensures) at (c .before .before .before .if2 .taken) in
-    simp (t1, t2, c .number-at3 .ensures, c .before .point-at .ensures, c .before .before .number-at2 .ensures, c .before .before .before .before .fits3 .ensures, c .before .before .before .before .before .before .before .fits2 .ensures)
+returns-2 c = simp (c .number-at3 .ensures, c .before .point-at .ensures, c .before .before .number-at2 .ensures) (sym (fit-no _ _ _ (sym (c .before .before .before .before .before .before .before .fits2 .ensures) ∙ c .before .before .before .before .before .before .if1 .left) ∙ fit-yes _ _ _ (sym (c .before .before .before .before .fits3 .ensures) ∙ c .before .before .before .if2 .taken)))
 
 slice-aggregate-fits-3 : tie.Need-slice-aggregate-fits-3
 slice-aggregate-fits-3 c = search needs
@@ -59,23 +53,13 @@ number-at-requires-5 : tie.Need-number-at-requires-5
 number-at-requires-5 c κs = search needs
 
 returns-3 : tie.Need-returns-3
-unfolding jointRecord
-returns-3 c =
-    let t1 = simp (c .before .before .before .before .before .before .before .before .before .before .before .fits2 .ensures) at (c .before .before .before .before .before .before .before .before .before .before .if1 .left) in
-    let t2 = simp (c .before .before .before .before .before .before .before .before .fits3 .ensures, c .before .before .before .before .before .before .before .before .before .before .before .fits2 .ensures) at (c .before .before .before .before .before .before .before .if2 .left) in
-    let t3 = simp (c .before .before .before .before .before .fits4 .ensures, c .before .before .before .before .before .before .before .before .fits3 .ensures, c .before .before .before .before .before .before .before .before .before .before .before .fits2 .ensures) at (c .before .before .before .before .if3 .taken) in
-    simp (t1, t2, t3, c .number-at5 .ensures, c .before .dir-at .ensures, c .before .before .point-at2 .ensures, c .before .before .before .number-at4 .ensures, c .before .before .before .before .before .fits4 .ensures, c .before .before .before .before .before .before .before .before .fits3 .ensures, c .before .before .before .before .before .before .before .before .before .before .before .fits2 .ensures)
+returns-3 c = simp (c .number-at5 .ensures, c .before .dir-at .ensures, c .before .before .point-at2 .ensures, c .before .before .before .number-at4 .ensures) (sym (fit-no _ _ _ (sym (c .before .before .before .before .before .before .before .before .before .before .before .fits2 .ensures) ∙ c .before .before .before .before .before .before .before .before .before .before .if1 .left) ∙ fit-no _ _ _ (sym (c .before .before .before .before .before .before .before .before .fits3 .ensures) ∙ c .before .before .before .before .before .before .before .if2 .left) ∙ fit-yes _ _ _ (sym (c .before .before .before .before .before .fits4 .ensures) ∙ c .before .before .before .before .if3 .taken)))
 
 part-record-requires : tie.Need-part-record-requires
 part-record-requires c κs = search needs
 
 returns-4 : tie.Need-returns-4
-unfolding jointRecord
-returns-4 c =
-    let t1 = simp (c .before .before .before .before .before .before .before .before .fits2 .ensures) at (c .before .before .before .before .before .before .before .if1 .left) in
-    let t2 = simp (c .before .before .before .before .before .fits3 .ensures, c .before .before .before .before .before .before .before .before .fits2 .ensures) at (c .before .before .before .before .if2 .left) in
-    let t3 = simp (c .before .before .fits4 .ensures, c .before .before .before .before .before .fits3 .ensures, c .before .before .before .before .before .before .before .before .fits2 .ensures) at (c .before .if3 .left) in
-    simp (t1, t2, t3, c .part-record .ensures, c .before .before .fits4 .ensures, c .before .before .before .before .before .fits3 .ensures, c .before .before .before .before .before .before .before .before .fits2 .ensures)
+returns-4 c = simp (c .part-record .ensures) (sym (fit-no _ _ _ (sym (c .before .before .before .before .before .before .before .before .fits2 .ensures) ∙ c .before .before .before .before .before .before .before .if1 .left) ∙ fit-no _ _ _ (sym (c .before .before .before .before .before .fits3 .ensures) ∙ c .before .before .before .before .if2 .left) ∙ fit-no _ _ _ (sym (c .before .before .fits4 .ensures) ∙ c .before .if3 .left)))
 
 pub joint-record-spec : {M : Type 1} → statement M
 joint-record-spec =

@@ -1,4 +1,5 @@
-use Rattle.text.specs.Records.{outlineRecord}
+use mathlib.Core.Path.{sym, _∙_}
+use Rattle.text.proofs.Forms.{fit-yes, fit-no, fit-none}
 use borrow.Author.Needs.{needs}
 use Rattle.text.proofs.records.outline_record.Statement.{statement}
 use Rattle.text.proofs.records.outline_record.Tie as tie
@@ -16,10 +17,7 @@ point-at-requires-2 : tie.Need-point-at-requires-2
 point-at-requires-2 c κs = search needs
 
 returns : tie.Need-returns
-unfolding outlineRecord
-returns c =
-    let t1 = simp (c .before .before .before .fits2 .ensures) at (c .before .before .if1 .taken) in
-    simp (t1, c .point-at2 .ensures, c .before .point-at .ensures, c .before .before .before .fits2 .ensures)
+returns c = simp (c .point-at2 .ensures, c .before .point-at .ensures) (sym (fit-yes _ _ _ (sym (c .before .before .before .fits2 .ensures) ∙ c .before .before .if1 .taken)))
 
 slice-aggregate-fits-2 : tie.Need-slice-aggregate-fits-2
 slice-aggregate-fits-2 c = search needs
@@ -40,21 +38,13 @@ dir-at-requires-2 : tie.Need-dir-at-requires-2
 dir-at-requires-2 c κs = search needs
 
 returns-2 : tie.Need-returns-2
-unfolding outlineRecord
-returns-2 c =
-    let t1 = simp (c .before .before .before .before .before .before .before .before .fits2 .ensures) at (c .before .before .before .before .before .before .before .if1 .left) in
-    let t2 = simp (c .before .before .before .before .before .fits3 .ensures, c .before .before .before .before .before .before .before .before .fits2 .ensures) at (c .before .before .before .before .if2 .taken) in
-    simp (t1, t2, c .dir-at2 .ensures, c .before .dir-at .ensures, c .before .before .real-at .ensures, c .before .before .before .point-at3 .ensures, c .before .before .before .before .before .fits3 .ensures, c .before .before .before .before .before .before .before .before .fits2 .ensures)
+returns-2 c = simp (c .dir-at2 .ensures, c .before .dir-at .ensures, c .before .before .real-at .ensures, c .before .before .before .point-at3 .ensures) (sym (fit-no _ _ _ (sym (c .before .before .before .before .before .before .before .before .fits2 .ensures) ∙ c .before .before .before .before .before .before .before .if1 .left) ∙ fit-yes _ _ _ (sym (c .before .before .before .before .before .fits3 .ensures) ∙ c .before .before .before .before .if2 .taken)))
 
 pair-record-requires : tie.Need-pair-record-requires
 pair-record-requires c κs = search needs
 
 returns-3 : tie.Need-returns-3
-unfolding outlineRecord
-returns-3 c =
-    let t1 = simp (c .before .before .before .before .before .fits2 .ensures) at (c .before .before .before .before .if1 .left) in
-    let t2 = simp (c .before .before .fits3 .ensures, c .before .before .before .before .before .fits2 .ensures) at (c .before .if2 .left) in
-    simp (t1, t2, c .pair-record .ensures, c .before .before .fits3 .ensures, c .before .before .before .before .before .fits2 .ensures)
+returns-3 c = simp (c .pair-record .ensures) (sym (fit-no _ _ _ (sym (c .before .before .before .before .before .fits2 .ensures) ∙ c .before .before .before .before .if1 .left) ∙ fit-no _ _ _ (sym (c .before .before .fits3 .ensures) ∙ c .before .if2 .left)))
 
 pub outline-record-spec : {M : Type 1} → statement M
 outline-record-spec =

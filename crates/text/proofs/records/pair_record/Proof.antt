@@ -1,4 +1,5 @@
-use Rattle.text.specs.Records.{pairRecord}
+use mathlib.Core.Path.{sym, _∙_}
+use Rattle.text.proofs.Forms.{fit-yes, fit-no, fit-none}
 use borrow.Author.Needs.{needs}
 use Rattle.text.proofs.records.pair_record.Statement.{statement}
 use Rattle.text.proofs.records.pair_record.Tie as tie
@@ -10,10 +11,7 @@ fits-requires : tie.Need-fits-requires
 fits-requires c κs = search needs
 
 returns : tie.Need-returns
-unfolding pairRecord
-returns c =
-    let t1 = simp (c .before .fits2 .ensures) at (c .if1 .taken) in
-    simp (t1, c .before .fits2 .ensures)
+returns c = sym (fit-yes _ _ _ (sym (c .before .fits2 .ensures) ∙ c .if1 .taken))
 
 slice-aggregate-fits-2 : tie.Need-slice-aggregate-fits-2
 slice-aggregate-fits-2 c = search needs
@@ -22,21 +20,13 @@ fits-requires-2 : tie.Need-fits-requires-2
 fits-requires-2 c κs = search needs
 
 returns-2 : tie.Need-returns-2
-unfolding pairRecord
-returns-2 c =
-    let t1 = simp (c .before .before .before .before .fits2 .ensures) at (c .before .before .before .if1 .left) in
-    let t2 = simp (c .before .fits3 .ensures, c .before .before .before .before .fits2 .ensures) at (c .if2 .taken) in
-    simp (t1, t2, c .before .fits3 .ensures, c .before .before .before .before .fits2 .ensures)
+returns-2 c = sym (fit-no _ _ _ (sym (c .before .before .before .before .fits2 .ensures) ∙ c .before .before .before .if1 .left) ∙ fit-yes _ _ _ (sym (c .before .fits3 .ensures) ∙ c .if2 .taken))
 
 side-record-requires : tie.Need-side-record-requires
 side-record-requires c κs = search needs
 
 returns-3 : tie.Need-returns-3
-unfolding pairRecord
-returns-3 c =
-    let t1 = simp (c .before .before .before .before .before .fits2 .ensures) at (c .before .before .before .before .if1 .left) in
-    let t2 = simp (c .before .before .fits3 .ensures, c .before .before .before .before .before .fits2 .ensures) at (c .before .if2 .left) in
-    simp (t1, t2, c .side-record .ensures, c .before .before .fits3 .ensures, c .before .before .before .before .before .fits2 .ensures)
+returns-3 c = simp (c .side-record .ensures) (sym (fit-no _ _ _ (sym (c .before .before .before .before .before .fits2 .ensures) ∙ c .before .before .before .before .if1 .left) ∙ fit-no _ _ _ (sym (c .before .before .fits3 .ensures) ∙ c .before .if2 .left)))
 
 pub pair-record-spec : {M : Type 1} → statement M
 pair-record-spec =

@@ -1,4 +1,5 @@
-use Rattle.text.specs.Records.{partRecord}
+use mathlib.Core.Path.{sym, _∙_}
+use Rattle.text.proofs.Forms.{fit-yes, fit-no, fit-none}
 use borrow.Author.Needs.{needs}
 use Rattle.text.proofs.records.part_record.Statement.{statement}
 use Rattle.text.proofs.records.part_record.Tie as tie
@@ -25,10 +26,7 @@ real-at-requires-2 : tie.Need-real-at-requires-2
 real-at-requires-2 c κs = search needs
 
 returns : tie.Need-returns
-unfolding partRecord
-returns c =
-    let t1 = simp (c .before .before .before .before .before .before .fits2 .ensures) at (c .before .before .before .before .before .if1 .taken) in
-    simp (t1, c .real-at2 .ensures, c .before .real-at .ensures, c .before .before .role-of .ensures, c .before .before .before .letter-at .ensures, c .before .before .before .before .number-at .ensures, c .before .before .before .before .before .before .fits2 .ensures)
+returns c = simp (c .real-at2 .ensures, c .before .real-at .ensures, c .before .before .role-of .ensures, c .before .before .before .letter-at .ensures, c .before .before .before .before .number-at .ensures) (sym (fit-yes _ _ _ (sym (c .before .before .before .before .before .before .fits2 .ensures) ∙ c .before .before .before .before .before .if1 .taken)))
 
 slice-aggregate-fits-2 : tie.Need-slice-aggregate-fits-2
 slice-aggregate-fits-2 c = search needs
@@ -49,11 +47,7 @@ real-at-requires-3 : tie.Need-real-at-requires-3
 real-at-requires-3 c κs = search needs
 
 returns-2 : tie.Need-returns-2
-unfolding partRecord
-returns-2 c =
-    let t1 = simp (c .before .before .before .before .before .before .before .before .fits2 .ensures) at (c .before .before .before .before .before .before .before .if1 .left) in
-    let t2 = simp (c .before .before .before .before .before .fits3 .ensures, c .before .before .before .before .before .before .before .before .fits2 .ensures) at (c .before .before .before .before .if2 .taken) in
-    simp (t1, t2, c .real-at3 .ensures, c .before .role-of2 .ensures, c .before .before .letter-at2 .ensures, c .before .before .before .number-at2 .ensures, c .before .before .before .before .before .fits3 .ensures, c .before .before .before .before .before .before .before .before .fits2 .ensures)
+returns-2 c = simp (c .real-at3 .ensures, c .before .role-of2 .ensures, c .before .before .letter-at2 .ensures, c .before .before .before .number-at2 .ensures) (sym (fit-no _ _ _ (sym (c .before .before .before .before .before .before .before .before .fits2 .ensures) ∙ c .before .before .before .before .before .before .before .if1 .left) ∙ fit-yes _ _ _ (sym (c .before .before .before .before .before .fits3 .ensures) ∙ c .before .before .before .before .if2 .taken)))
 
 slice-aggregate-fits-3 : tie.Need-slice-aggregate-fits-3
 slice-aggregate-fits-3 c = search needs
@@ -74,12 +68,7 @@ real-at-requires-4 : tie.Need-real-at-requires-4
 real-at-requires-4 c κs = search needs
 
 returns-3 : tie.Need-returns-3
-unfolding partRecord
-returns-3 c =
-    let t1 = simp (c .before .before .before .before .before .before .before .before .before .before .before .fits2 .ensures) at (c .before .before .before .before .before .before .before .before .before .before .if1 .left) in
-    let t2 = simp (c .before .before .before .before .before .before .before .before .fits3 .ensures, c .before .before .before .before .before .before .before .before .before .before .before .fits2 .ensures) at (c .before .before .before .before .before .before .before .if2 .left) in
-    let t3 = simp (c .before .before .before .before .before .fits4 .ensures, c .before .before .before .before .before .before .before .before .fits3 .ensures, c .before .before .before .before .before .before .before .before .before .before .before .fits2 .ensures) at (c .before .before .before .before .if3 .taken) in
-    simp (t1, t2, t3, c .real-at4 .ensures, c .before .role-of3 .ensures, c .before .before .letter-at3 .ensures, c .before .before .before .number-at3 .ensures, c .before .before .before .before .before .fits4 .ensures, c .before .before .before .before .before .before .before .before .fits3 .ensures, c .before .before .before .before .before .before .before .before .before .before .before .fits2 .ensures)
+returns-3 c = simp (c .real-at4 .ensures, c .before .role-of3 .ensures, c .before .before .letter-at3 .ensures, c .before .before .before .number-at3 .ensures) (sym (fit-no _ _ _ (sym (c .before .before .before .before .before .before .before .before .before .before .before .fits2 .ensures) ∙ c .before .before .before .before .before .before .before .before .before .before .if1 .left) ∙ fit-no _ _ _ (sym (c .before .before .before .before .before .before .before .before .fits3 .ensures) ∙ c .before .before .before .before .before .before .before .if2 .left) ∙ fit-yes _ _ _ (sym (c .before .before .before .before .before .fits4 .ensures) ∙ c .before .before .before .before .if3 .taken)))
 
 slice-aggregate-fits-4 : tie.Need-slice-aggregate-fits-4
 slice-aggregate-fits-4 c = search needs
@@ -100,25 +89,13 @@ real-at-requires-5 : tie.Need-real-at-requires-5
 real-at-requires-5 c κs = search needs
 
 returns-4 : tie.Need-returns-4
-unfolding partRecord
-returns-4 c =
-    let t1 = simp (c .before .before .before .before .before .before .before .before .before .before .before .before .before .before .fits2 .ensures) at (c .before .before .before .before .before .before .before .before .before .before .before .before .before .if1 .left) in
-    let t2 = simp (c .before .before .before .before .before .before .before .before .before .before .before .fits3 .ensures, c .before .before .before .before .before .before .before .before .before .before .before .before .before .before .fits2 .ensures) at (c .before .before .before .before .before .before .before .before .before .before .if2 .left) in
-    let t3 = simp (c .before .before .before .before .before .before .before .before .fits4 .ensures, c .before .before .before .before .before .before .before .before .before .before .before .fits3 .ensures, c .before .before .before .before .before .before .before .before .before .before .before .before .before .before .fits2 .ensures) at (c .before .before .before .before .before .before .before .if3 .left) in
-    let t4 = simp (c .before .before .before .before .before .fits5 .ensures, c .before .before .before .before .before .before .before .before .fits4 .ensures, c .before .before .before .before .before .before .before .before .before .before .before .fits3 .ensures, c .before .before .before .before .before .before .before .before .before .before .before .before .before .before .fits2 .ensures) at (c .before .before .before .before .if4 .taken) in
-    simp (t1, t2, t3, t4, c .real-at5 .ensures, c .before .role-of4 .ensures, c .before .before .letter-at4 .ensures, c .before .before .before .number-at4 .ensures, c .before .before .before .before .before .fits5 .ensures, c .before .before .before .before .before .before .before .before .fits4 .ensures, c .before .before .before .before .before .before .before .before .before .before .before .fits3 .ensures, c .before .before .before .before .before .before .before .before .before .before .before .before .before .before .fits2 .ensures)
+returns-4 c = simp (c .real-at5 .ensures, c .before .role-of4 .ensures, c .before .before .letter-at4 .ensures, c .before .before .before .number-at4 .ensures) (sym (fit-no _ _ _ (sym (c .before .before .before .before .before .before .before .before .before .before .before .before .before .before .fits2 .ensures) ∙ c .before .before .before .before .before .before .before .before .before .before .before .before .before .if1 .left) ∙ fit-no _ _ _ (sym (c .before .before .before .before .before .before .before .before .before .before .before .fits3 .ensures) ∙ c .before .before .before .before .before .before .before .before .before .before .if2 .left) ∙ fit-no _ _ _ (sym (c .before .before .before .before .before .before .before .before .fits4 .ensures) ∙ c .before .before .before .before .before .before .before .if3 .left) ∙ fit-yes _ _ _ (sym (c .before .before .before .before .before .fits5 .ensures) ∙ c .before .before .before .before .if4 .taken)))
 
 outline-record-requires : tie.Need-outline-record-requires
 outline-record-requires c κs = search needs
 
 returns-5 : tie.Need-returns-5
-unfolding partRecord
-returns-5 c =
-    let t1 = simp (c .before .before .before .before .before .before .before .before .before .before .before .fits2 .ensures) at (c .before .before .before .before .before .before .before .before .before .before .if1 .left) in
-    let t2 = simp (c .before .before .before .before .before .before .before .before .fits3 .ensures, c .before .before .before .before .before .before .before .before .before .before .before .fits2 .ensures) at (c .before .before .before .before .before .before .before .if2 .left) in
-    let t3 = simp (c .before .before .before .before .before .fits4 .ensures, c .before .before .before .before .before .before .before .before .fits3 .ensures, c .before .before .before .before .before .before .before .before .before .before .before .fits2 .ensures) at (c .before .before .before .before .if3 .left) in
-    let t4 = simp (c .before .before .fits5 .ensures, c .before .before .before .before .before .fits4 .ensures, c .before .before .before .before .before .before .before .before .fits3 .ensures, c .before .before .before .before .before .before .before .before .before .before .before .fits2 .ensures) at (c .before .if4 .left) in
-    simp (t1, t2, t3, t4, c .outline-record .ensures, c .before .before .fits5 .ensures, c .before .before .before .before .before .fits4 .ensures, c .before .before .before .before .before .before .before .before .fits3 .ensures, c .before .before .before .before .before .before .before .before .before .before .before .fits2 .ensures)
+returns-5 c = simp (c .outline-record .ensures) (sym (fit-no _ _ _ (sym (c .before .before .before .before .before .before .before .before .before .before .before .fits2 .ensures) ∙ c .before .before .before .before .before .before .before .before .before .before .if1 .left) ∙ fit-no _ _ _ (sym (c .before .before .before .before .before .before .before .before .fits3 .ensures) ∙ c .before .before .before .before .before .before .before .if2 .left) ∙ fit-no _ _ _ (sym (c .before .before .before .before .before .fits4 .ensures) ∙ c .before .before .before .before .if3 .left) ∙ fit-no _ _ _ (sym (c .before .before .fits5 .ensures) ∙ c .before .if4 .left)))
 
 pub part-record-spec : {M : Type 1} → statement M
 part-record-spec =

@@ -1,4 +1,5 @@
-use Rattle.text.specs.Records.{recordOf}
+use mathlib.Core.Path.{sym, _∙_}
+use Rattle.text.proofs.Forms.{fit-yes, fit-no, fit-none}
 use borrow.Author.Needs.{needs}
 use Rattle.text.proofs.records.record_of.Statement.{statement}
 use Rattle.text.proofs.records.record_of.Tie as tie
@@ -13,19 +14,13 @@ number-at-requires : tie.Need-number-at-requires
 number-at-requires c κs = search needs
 
 returns : tie.Need-returns
-unfolding recordOf
-returns c =
-    let t1 = simp (c .before .before .fits2 .ensures) at (c .before .if1 .taken) in
-    simp (t1, c .number-at .ensures, c .before .before .fits2 .ensures)
+returns c = simp (c .number-at .ensures) (sym (fit-yes _ _ _ (sym (c .before .before .fits2 .ensures) ∙ c .before .if1 .taken)))
 
 joint-record-requires : tie.Need-joint-record-requires
 joint-record-requires c κs = search needs
 
 returns-2 : tie.Need-returns-2
-unfolding recordOf
-returns-2 c =
-    let t1 = simp (c .before .before .fits2 .ensures) at (c .before .if1 .left) in
-    simp (t1, c .joint-record .ensures, c .before .before .fits2 .ensures)
+returns-2 c = simp (c .joint-record .ensures) (sym (fit-no _ _ _ (sym (c .before .before .fits2 .ensures) ∙ c .before .if1 .left)))
 
 pub record-of-spec : {M : Type 1} → statement M
 record-of-spec =

@@ -1,4 +1,5 @@
-use Rattle.text.specs.Records.{sideRecord}
+use mathlib.Core.Path.{sym, _∙_}
+use Rattle.text.proofs.Forms.{fit-yes, fit-no, fit-none}
 use borrow.Author.Needs.{needs}
 use Rattle.text.proofs.records.side_record.Statement.{statement}
 use Rattle.text.proofs.records.side_record.Tie as tie
@@ -13,10 +14,7 @@ range-at-requires : tie.Need-range-at-requires
 range-at-requires c κs = search needs
 
 returns : tie.Need-returns
-unfolding sideRecord
-returns c =
-    let t1 = simp (c .before .before .fits2 .ensures) at (c .before .if1 .taken) in
-    simp (t1, c .range-at .ensures, c .before .before .fits2 .ensures)
+returns c = simp (c .range-at .ensures) (sym (fit-yes _ _ _ (sym (c .before .before .fits2 .ensures) ∙ c .before .if1 .taken)))
 
 slice-aggregate-fits-2 : tie.Need-slice-aggregate-fits-2
 slice-aggregate-fits-2 c = search needs
@@ -28,21 +26,13 @@ range-at-requires-2 : tie.Need-range-at-requires-2
 range-at-requires-2 c κs = search needs
 
 returns-2 : tie.Need-returns-2
-unfolding sideRecord
-returns-2 c =
-    let t1 = simp (c .before .before .before .before .before .fits2 .ensures) at (c .before .before .before .before .if1 .left) in
-    let t2 = simp (c .before .before .fits3 .ensures, c .before .before .before .before .before .fits2 .ensures) at (c .before .if2 .taken) in
-    simp (t1, t2, c .range-at2 .ensures, c .before .before .fits3 .ensures, c .before .before .before .before .before .fits2 .ensures)
+returns-2 c = simp (c .range-at2 .ensures) (sym (fit-no _ _ _ (sym (c .before .before .before .before .before .fits2 .ensures) ∙ c .before .before .before .before .if1 .left) ∙ fit-yes _ _ _ (sym (c .before .before .fits3 .ensures) ∙ c .before .if2 .taken)))
 
 end-record-requires : tie.Need-end-record-requires
 end-record-requires c κs = search needs
 
 returns-3 : tie.Need-returns-3
-unfolding sideRecord
-returns-3 c =
-    let t1 = simp (c .before .before .before .before .before .fits2 .ensures) at (c .before .before .before .before .if1 .left) in
-    let t2 = simp (c .before .before .fits3 .ensures, c .before .before .before .before .before .fits2 .ensures) at (c .before .if2 .left) in
-    simp (t1, t2, c .end-record .ensures, c .before .before .fits3 .ensures, c .before .before .before .before .before .fits2 .ensures)
+returns-3 c = simp (c .end-record .ensures) (sym (fit-no _ _ _ (sym (c .before .before .before .before .before .fits2 .ensures) ∙ c .before .before .before .before .if1 .left) ∙ fit-no _ _ _ (sym (c .before .before .fits3 .ensures) ∙ c .before .if2 .left)))
 
 pub side-record-spec : {M : Type 1} → statement M
 side-record-spec =
