@@ -2,6 +2,7 @@
 use Prim.Native.Nat.{ℕ, _+_, _-_, _<_, _≤_}
 use native.Mathlib.Omega.{arith}
 use native.Mathlib.Numerals.{add-one}
+use Prim.Native.Char.{code}
 use mathlib.Core.Path.{_≡_, refl, sym, ap, _∙_}
 use mathlib.Core.Bool.{Bool, true, false, false≢true, _&&_, _||_, cond}
 use mathlib.Core.List.{List, [], _∷_}
@@ -12,7 +13,6 @@ use lib.Seq.{sets}
 use Rattle.laws.proofs.Choice.{cond-yes, cond-no}
 use Rattle.mechanism.specs.declared.part.OutlineSeg.{OutlineSeg}
 use Rattle.mechanism.specs.declared.Problem.the-variants.{LineNotRead, LimitPassed}
-use Rattle.text.specs.Letters.{L, M}
 use Rattle.text.specs.Lists.{foldOf}
 use Rattle.text.specs.Pieces.{split, pieceEnd}
 use Rattle.text.proofs.Pieces.{Piece, piece, at-least-one}
@@ -26,6 +26,12 @@ use Rattle.sheet.specs.Limits.{Bounds, noLines, counted, withinLimits}
 use Rattle.sheet.specs.Draft.{noDraft, put, edgeOf}
 use Rattle.sheet.specs.Read.{Lines, stuck, whole, then, lineOf, lines, allWithin, drafted, edges, noOutlines, accepted, refused, ended, judged, linesOf}
 use Rattle.sheet.proofs.Counting.{bounds, no-lines-bounds}
+
+abbrev M : ℕ
+M = code "M"
+
+abbrev L : ℕ
+L = code "L"
 
 -- what is left to read, judged from a tally, a description and its segments on; `good` says whether all lines so far kept within the limits
 abbrev judgedFrom : Bool → Tally → Draft → List OutlineSeg → Lines → Sheet

@@ -1,8 +1,8 @@
 -- The order of lines: M, J, P with its L and A, K with its S, G, T; of a pair's S lines those of side A before those of B. Definitions only.
 use Prim.Native.Nat.{ℕ}
+use Prim.Native.Char.{code}
 use mathlib.Core.Bool.{Bool, _&&_}
 use lib.Dec.{leb, eqb}
-use Rattle.text.specs.Letters.{G, J, K, L, M, P, S, T}
 use Rattle.text.specs.declared.records.Record.{Record}
 use Rattle.text.specs.declared.records.Record.the-variants.{Coords, Joined, Drawn, Edge, Paired, OnA, OnB, Margin, Turned, Malformed}
 use Rattle.sheet.specs.declared.grammar.Place.{Place}
@@ -48,15 +48,15 @@ follows stage r = leb (placeOf r .low) stage && leb stage (placeOf r .high)
 
 -- the letter of a record's kind; A lines are of L's
 abbrev pub kindOf : Record → ℕ
-kindOf (Coords n) = M
-kindOf (Joined b) = J
-kindOf (Drawn b r s) = P
-kindOf (Edge g) = L
-kindOf (Paired g) = K
-kindOf (OnA x) = S
-kindOf (OnB x) = S
-kindOf (Margin m) = G
-kindOf (Turned e) = T
+kindOf (Coords n) = code "M"
+kindOf (Joined b) = code "J"
+kindOf (Drawn b r s) = code "P"
+kindOf (Edge g) = code "L"
+kindOf (Paired g) = code "K"
+kindOf (OnA x) = code "S"
+kindOf (OnB x) = code "S"
+kindOf (Margin m) = code "G"
+kindOf (Turned e) = code "T"
 kindOf Malformed = 0
 
 -- a text may end after a newline, once M and G were read

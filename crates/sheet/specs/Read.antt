@@ -1,5 +1,6 @@
 -- What a sheet text says: document 01's refusals 1, 2 and 3, and the description. Definitions only.
 use Prim.Native.Nat.{ℕ, _+_}
+use Prim.Native.Char.{code}
 use mathlib.Core.Bool.{Bool, true, false, _&&_, _||_, cond}
 use mathlib.Core.List.{List, [], _∷_}
 use lib.Dec.{ltb, eqb}
@@ -9,9 +10,8 @@ use Rattle.mechanism.specs.declared.part.OutlineSeg.{OutlineSeg}
 use Rattle.mechanism.specs.declared.Problem.{Problem}
 use Rattle.mechanism.specs.declared.Problem.the-variants.{TextTooLong, LineNotRead, LimitPassed}
 use Rattle.mechanism.specs.declared.Checked.the-variants.{Accepted, Refused}
-use Rattle.text.specs.Letters.{L, M}
 use Rattle.text.specs.Lists.{foldOf}
-use Rattle.text.specs.Pieces.{split}
+use Rattle.text.specs.Pieces.{split, fieldsOf}
 use Rattle.text.specs.Records.{recordOf}
 use Rattle.text.specs.declared.records.Record.{Record}
 use Rattle.sheet.specs.declared.Sheet.{Sheet}
@@ -31,9 +31,9 @@ abbrev pub then : Record → Lines → Lines
 then r (stuck n) = stuck n
 then r (whole rs) = whole (r ∷ rs)
 
--- the record that a line is; commas part its fields
+-- the record that a line is
 abbrev pub lineOf : List ℕ → Record
-lineOf l = recordOf (split 44 l)
+lineOf l = recordOf (fieldsOf l)
 
 -- The pieces that newlines part, from piece n on; `headed` says whether M was read. The last piece is no line, and is empty where the text is well formed:
 -- its number is the place of a line without its newline, and of a missing M or G.
@@ -41,7 +41,7 @@ unfoldable pub lines : Bool → ℕ → ℕ → List (List ℕ) → Lines
 lines headed stage n [] = stuck n
 lines headed stage n (l ∷ []) = cond (mayEnd (length l) headed stage) (whole []) (stuck n)
 lines headed stage n (l ∷ (m ∷ ls)) =
-    cond (follows stage (lineOf l)) (then (lineOf l) (lines (headed || eqb (kindOf (lineOf l)) M) (placeOf (lineOf l) .next) (n + 1) (m ∷ ls))) (stuck n)
+    cond (follows stage (lineOf l)) (then (lineOf l) (lines (headed || eqb (kindOf (lineOf l)) (code "M")) (placeOf (lineOf l) .next) (n + 1) (m ∷ ls))) (stuck n)
 
 -- ---- the description of lines
 -- no line passes a limit
@@ -56,7 +56,7 @@ drafted t d (r ∷ rs) = drafted (counted t r) (put t d r) rs
 -- the segments of the L and A lines, in order
 unfoldable pub edges : List Record → List OutlineSeg
 edges [] = []
-edges (r ∷ rs) = cond (eqb (kindOf r) L) (edgeOf r ∷ edges rs) (edges rs)
+edges (r ∷ rs) = cond (eqb (kindOf r) (code "L")) (edgeOf r ∷ edges rs) (edges rs)
 
 abbrev pub noOutlines : List OutlineSeg
 noOutlines = replicate 384 noSeg
@@ -91,7 +91,7 @@ judged (stuck n) = refused (LineNotRead n)
 judged (whole rs) = cond (allWithin noLines rs) (accepted (foldOf counted noLines rs) (drafted noLines noDraft rs) (sets noOutlines 0 (edges rs))) (refused LimitPassed)
 
 unfoldable pub linesOf : List ℕ → Sheet
-linesOf text = judged (lines false start 1 (split 10 text))
+linesOf text = judged (lines false start 1 (split (code "\n") text))
 
 -- what a text says
 unfoldable pub sheetOf : List ℕ → Sheet

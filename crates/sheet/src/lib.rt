@@ -108,7 +108,7 @@ fn read_lines(text: &[u8]) -> Sheet
     let mut n: usize = 1;
     let mut at: usize = 0;
     loop {
-        let e = text::fields::find(text, at, 10);
+        let e = text::fields::find(text, at, b'\n');
         let line = &text[at..e];
         if e == text.len() {
             let whole = grammar::may_end(line.len(), headed, stage);

@@ -1,5 +1,6 @@
 -- The fields of a line: whole numbers, floats and letters. Definitions only.
 use Prim.Native.Nat.{ℕ, _+_, _*_, _-_}
+use Prim.Native.Char.{code}
 use mathlib.Core.Bool.{Bool, true, false, not, _&&_, _||_, cond}
 use mathlib.Core.List.{List, [], _∷_}
 use lib.Dec.{ltb, leb, eqb}
@@ -12,15 +13,15 @@ use Rattle.text.specs.declared.fields.Real.the-variants.{Value, NoValue}
 use Rattle.text.specs.declared.fields.Real.{Real}
 
 abbrev pub isDigit : ℕ → Bool
-isDigit b = leb 48 b && leb b 57
+isDigit b = leb (code "0") b && leb b (code "9")
 
 -- at least one byte, and no leading zero
 unfoldable pub written : List ℕ → Bool
-written f = ltb 0 (length f) && not (ltb 1 (length f) && eqb (getD f 0 0) 48)
+written f = ltb 0 (length f) && not (ltb 1 (length f) && eqb (getD f 0 0) (code "0"))
 
 -- a number, with one more digit after it
 abbrev pub tens : ℕ → ℕ → ℕ
-tens v b = v * 10 + (b - 48)
+tens v b = v * 10 + (b - code "0")
 
 unfoldable pub decimal : List ℕ → ℕ
 decimal f = foldOf tens 0 f
@@ -30,11 +31,11 @@ unfoldable pub numberOf : List ℕ → Whole
 numberOf f = cond (written f && (allOf isDigit f && leb (decimal f) 65535)) (Number (decimal f)) NoNumber
 
 abbrev pub isHex : ℕ → Bool
-isHex b = isDigit b || (leb 97 b && leb b 102)
+isHex b = isDigit b || (leb (code "a") b && leb b (code "f"))
 
 -- a lowercase hexadecimal digit's value
 abbrev pub hexOf : ℕ → ℕ
-hexOf b = cond (isDigit b) (b - 48) (b - 87)
+hexOf b = cond (isDigit b) (b - code "0") (b - code "a" + 10)
 
 abbrev pub sixteens : ℕ → ℕ → ℕ
 sixteens v b = v * 16 + hexOf b
@@ -68,14 +69,14 @@ realOr0 NoValue = ofBits binary64 0
 
 -- S solid, C cut, L lining
 abbrev pub isRole : ℕ → Bool
-isRole b = eqb b 83 || (eqb b 67 || eqb b 76)
+isRole b = eqb b (code "S") || (eqb b (code "C") || eqb b (code "L"))
 
 -- a field is of a kind: n a whole number, f a float, r a role's letter, a capital letter that letter
 unfoldable pub isKind : ℕ → List ℕ → Bool
 isKind k f =
-    cond (eqb k 110) (isWhole (numberOf f))
-    (cond (eqb k 102) (isReal (floatOf f))
-    (cond (eqb k 114) (isRole (letterOf f))
+    cond (eqb k (code "n")) (isWhole (numberOf f))
+    (cond (eqb k (code "f")) (isReal (floatOf f))
+    (cond (eqb k (code "r")) (isRole (letterOf f))
     (eqb (letterOf f) k)))
 
 -- fields are of the kinds of a form, one for one

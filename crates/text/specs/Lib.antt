@@ -1,4 +1,4 @@
-pub mod Letters
+pub mod Bytes
 pub mod Lists
 pub mod Pieces
 pub mod Fields

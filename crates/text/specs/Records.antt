@@ -1,5 +1,7 @@
 -- The record that a line is, by its fields: the table of forms. Definitions only.
 use Prim.Native.Nat.{ℕ, _+_}
+use Prim.Native.Char.{code}
+use Prim.Native.String.{String}
 use mathlib.Core.Bool.{cond}
 use mathlib.Core.List.{List, [], _∷_}
 use lib.Dec.{eqb}
@@ -15,7 +17,7 @@ use Rattle.mechanism.specs.declared.part.Sweep.{Sweep}
 use Rattle.mechanism.specs.declared.part.Sweep.the-variants.{Extruded, Revolved, Milled, Oval}
 use Rattle.mechanism.specs.declared.part.SurfaceRef.{SurfaceRef}
 use Rattle.mechanism.specs.declared.pair.PairGeometry.the-variants.{Features, CenterBearing}
-use Rattle.text.specs.Letters.{A, B, C, E, F, G, J, K, L, M, O, P, R, S, T, n, f, r}
+use Rattle.text.specs.Bytes.{bytes}
 use Rattle.text.specs.Fields.{fitsForm, numberAt, realAt, letterAt}
 use Rattle.text.specs.declared.records.Record.{Record}
 use Rattle.text.specs.declared.records.Record.the-variants.{Coords, Joined, Drawn, Edge, Paired, OnA, OnB, Margin, Turned, Malformed}
@@ -32,7 +34,7 @@ module _ (fs : List (List ℕ)) where
   rangeAt = record { part = numberAt fs 2; start = numberAt fs 3; end = numberAt fs 4 }
 
 abbrev pub roleOf : ℕ → Role
-roleOf b = cond (eqb b S) Solid (cond (eqb b C) Cut Lining)
+roleOf b = cond (eqb b (code "S")) Solid (cond (eqb b (code "C")) Cut Lining)
 
 -- ---- the table of forms
 -- n is a whole number, f a float, r a role's letter S, C or L; a capital letter is that letter. Beside a form, the record of the fields that fit it.
@@ -40,8 +42,8 @@ pub record Form : Type 0 where
   pub shape : List ℕ
   pub make : List (List ℕ) → Record
 
-abbrev form : List ℕ → (List (List ℕ) → Record) → Form
-form s m = record { shape = s; make = m }
+abbrev form : String → (List (List ℕ) → Record) → Form
+form s m = record { shape = bytes s; make = m }
 
 abbrev body : (List (List ℕ) → Joint) → List (List ℕ) → Record
 body m fs = Joined (record { parent = numberAt fs 2; joint = m fs })
@@ -51,45 +53,45 @@ part m fs = Drawn (numberAt fs 1) (roleOf (letterAt fs 2)) (m fs)
 
 abbrev pub ends : List Form
 ends =
-    form (G ∷ f ∷ []) (λ fs. Margin (realAt fs 1))
-    ∷ form (T ∷ f ∷ f ∷ f ∷ []) (λ fs. Turned (record { value = realAt fs 1; sine = realAt fs 2; cosine = realAt fs 3 }))
+    form "Gf" (λ fs. Margin (realAt fs 1))
+    ∷ form "Tfff" (λ fs. Turned (record { value = realAt fs 1; sine = realAt fs 2; cosine = realAt fs 3 }))
     ∷ []
 
 abbrev pub sides : List Form
 sides =
-    form (S ∷ A ∷ n ∷ n ∷ n ∷ []) (λ fs. OnA (rangeAt fs))
-    ∷ form (S ∷ B ∷ n ∷ n ∷ n ∷ []) (λ fs. OnB (rangeAt fs))
+    form "SAnnn" (λ fs. OnA (rangeAt fs))
+    ∷ form "SBnnn" (λ fs. OnB (rangeAt fs))
     ∷ ends
 
 abbrev pub pairs : List Form
 pairs =
-    form (K ∷ F ∷ []) (λ fs. Paired Features)
-    ∷ form (K ∷ C ∷ []) (λ fs. Paired CenterBearing)
+    form "KF" (λ fs. Paired Features)
+    ∷ form "KC" (λ fs. Paired CenterBearing)
     ∷ sides
 
 abbrev pub outlines : List Form
 outlines =
-    form (L ∷ f ∷ f ∷ f ∷ f ∷ []) (λ fs. Edge (Line (pointAt fs 1) (pointAt fs 3)))
-    ∷ form (A ∷ f ∷ f ∷ f ∷ f ∷ f ∷ f ∷ f ∷ []) (λ fs. Edge (Arc (pointAt fs 1) (realAt fs 3) (dirAt fs 4) (dirAt fs 6)))
+    form "Lffff" (λ fs. Edge (Line (pointAt fs 1) (pointAt fs 3)))
+    ∷ form "Afffffff" (λ fs. Edge (Arc (pointAt fs 1) (realAt fs 3) (dirAt fs 4) (dirAt fs 6)))
     ∷ pairs
 
 abbrev pub parts : List Form
 parts =
-    form (P ∷ n ∷ r ∷ E ∷ f ∷ f ∷ []) (part (λ fs. Extruded (realAt fs 4) (realAt fs 5)))
-    ∷ form (P ∷ n ∷ r ∷ R ∷ f ∷ []) (part (λ fs. Revolved (realAt fs 4)))
-    ∷ form (P ∷ n ∷ r ∷ M ∷ f ∷ []) (part (λ fs. Milled (realAt fs 4)))
-    ∷ form (P ∷ n ∷ r ∷ O ∷ f ∷ []) (part (λ fs. Oval (realAt fs 4)))
+    form "PnrEff" (part (λ fs. Extruded (realAt fs 4) (realAt fs 5)))
+    ∷ form "PnrRf" (part (λ fs. Revolved (realAt fs 4)))
+    ∷ form "PnrMf" (part (λ fs. Milled (realAt fs 4)))
+    ∷ form "PnrOf" (part (λ fs. Oval (realAt fs 4)))
     ∷ outlines
 
 abbrev pub joints : List Form
 joints =
-    form (J ∷ G ∷ n ∷ []) (body (λ fs. Ground))
-    ∷ form (J ∷ R ∷ n ∷ n ∷ f ∷ f ∷ []) (body (λ fs. Revolute (pointAt fs 4) (numberAt fs 3)))
-    ∷ form (J ∷ P ∷ n ∷ n ∷ f ∷ f ∷ f ∷ f ∷ []) (body (λ fs. Prismatic (pointAt fs 4) (dirAt fs 6) (numberAt fs 3)))
+    form "JGn" (body (λ fs. Ground))
+    ∷ form "JRnnff" (body (λ fs. Revolute (pointAt fs 4) (numberAt fs 3)))
+    ∷ form "JPnnffff" (body (λ fs. Prismatic (pointAt fs 4) (dirAt fs 6) (numberAt fs 3)))
     ∷ parts
 
 abbrev pub forms : List Form
-forms = form (M ∷ n ∷ []) (λ fs. Coords (numberAt fs 1)) ∷ joints
+forms = form "Mn" (λ fs. Coords (numberAt fs 1)) ∷ joints
 
 -- the record of the first form that fits
 unfoldable pub firstFit : List Form → List (List ℕ) → Record

@@ -2,7 +2,7 @@
 ghost use mathlib.Core.Path.{_≡_};
 ghost use mathlib.Core.Bool.{true};
 ghost use Prim.Native.Nat.{_<_};
-ghost use Rattle.text.specs.Pieces.{split, pieceEnd};
+ghost use Rattle.text.specs.Pieces.{pieceEnd, fieldsOf};
 ghost use Rattle.text.specs.Fields.{isDigit, written, numberOf, hexOf, isHex, floatOf, letterOf, isWhole, wholeOr0, isReal, realOr0, isRole, isKind, fitsForm, fieldAt, numberAt, realAt, letterAt};
 
 // A whole number that was read.
@@ -34,7 +34,7 @@ pub fn find(s: &[u8], at: usize, c: u8) -> usize
 fn is_digit(b: u8) -> bool
     ensures { λ r. ⌜ r ≡ isDigit b ⌝ }
 {
-    (48 <= b) & (b <= 57)
+    (b'0' <= b) & (b <= b'9')
 }
 
 // At least one byte, and no leading zero.
@@ -44,7 +44,7 @@ fn well_written(f: &[u8]) -> bool
     if f.len() == 0 {
         return false;
     }
-    !((1 < f.len()) & (f[0] == 48))
+    !((1 < f.len()) & (f[0] == b'0'))
 }
 
 // The whole number that a field is.
@@ -61,7 +61,7 @@ pub fn number_of(f: &[u8]) -> Whole
         if !is_digit(b) {
             return Whole::NoNumber;
         }
-        v = v * 10 + (b as usize - 48);
+        v = v * 10 + (b - b'0') as usize;
         if 65535 < v {
             return Whole::NoNumber;
         }
@@ -73,7 +73,7 @@ pub fn number_of(f: &[u8]) -> Whole
 fn is_hex(b: u8) -> bool
     ensures { λ r. ⌜ r ≡ isHex b ⌝ }
 {
-    ((48 <= b) & (b <= 57)) | ((97 <= b) & (b <= 102))
+    ((b'0' <= b) & (b <= b'9')) | ((b'a' <= b) & (b <= b'f'))
 }
 
 fn hex_value(b: u8) -> u64
@@ -81,9 +81,9 @@ fn hex_value(b: u8) -> u64
     ensures { λ r. ⌜ (r ≡ hexOf b) × (r < 16) ⌝ }
 {
     if is_digit(b) {
-        return b as u64 - 48;
+        return (b - b'0') as u64;
     }
-    b as u64 - 87
+    (b - b'a') as u64 + 10
 }
 
 // The float that a field is.
@@ -155,20 +155,20 @@ fn real_or_0(w: Real) -> f64
 fn is_role(b: u8) -> bool
     ensures { λ r. ⌜ r ≡ isRole b ⌝ }
 {
-    (b == 83) | ((b == 67) | (b == 76))
+    (b == b'S') | ((b == b'C') | (b == b'L'))
 }
 
 // A field is of a kind: n a whole number, f a float, r a role's letter, a capital letter that letter.
 fn is_kind(kind: u8, f: &[u8]) -> bool
     ensures { λ r. ⌜ r ≡ isKind kind (now (f .entry)) ⌝ }
 {
-    if kind == 110 {
+    if kind == b'n' {
         return is_whole(number_of(f));
     }
-    if kind == 102 {
+    if kind == b'f' {
         return is_real(real_of(f));
     }
-    if kind == 114 {
+    if kind == b'r' {
         return is_role(letter_of(f));
     }
     letter_of(f) == kind
@@ -176,12 +176,12 @@ fn is_kind(kind: u8, f: &[u8]) -> bool
 
 // The fields of a line are of the kinds of a form, one for one.
 pub fn fits(line: &[u8], form: &[u8]) -> bool
-    ensures { λ r. ⌜ r ≡ fitsForm (now (form .entry)) (split 44 (now (line .entry))) ⌝ }
+    ensures { λ r. ⌜ r ≡ fitsForm (now (form .entry)) (fieldsOf (now (line .entry))) ⌝ }
 {
     let mut at: usize = 0;
     let mut j: usize = 0;
     while j < form.len() {
-        let e = find(line, at, 44);
+        let e = find(line, at, b',');
         let f = &line[at..e];
         if !is_kind(form[j], f) {
             return false;
@@ -197,37 +197,37 @@ pub fn fits(line: &[u8], form: &[u8]) -> bool
 
 // The field j of a line, or nothing where it has fewer.
 pub fn field(line: &[u8], j: usize) -> &[u8]
-    ensures { λ r. ⌜ now r ≡ fieldAt (split 44 (now (line .entry))) j ⌝ }
+    ensures { λ r. ⌜ now r ≡ fieldAt (fieldsOf (now (line .entry))) j ⌝ }
 {
     let mut at: usize = 0;
     let mut i: usize = 0;
     while i < j {
-        let e = find(line, at, 44);
+        let e = find(line, at, b',');
         if e == line.len() {
             return &line[e..e];
         }
         at = e + 1;
         i += 1;
     }
-    let e = find(line, at, 44);
+    let e = find(line, at, b',');
     &line[at..e]
 }
 
 // The field j as a whole number, as a float, as a letter.
 pub fn number_at(line: &[u8], j: usize) -> usize
-    ensures { λ r. ⌜ r ≡ numberAt (split 44 (now (line .entry))) j ⌝ }
+    ensures { λ r. ⌜ r ≡ numberAt (fieldsOf (now (line .entry))) j ⌝ }
 {
     whole_or_0(number_of(field(line, j)))
 }
 
 pub fn real_at(line: &[u8], j: usize) -> f64
-    ensures { λ r. ⌜ r ≡ realAt (split 44 (now (line .entry))) j ⌝ }
+    ensures { λ r. ⌜ r ≡ realAt (fieldsOf (now (line .entry))) j ⌝ }
 {
     real_or_0(real_of(field(line, j)))
 }
 
 pub fn letter_at(line: &[u8], j: usize) -> u8
-    ensures { λ r. ⌜ r ≡ letterAt (split 44 (now (line .entry))) j ⌝ }
+    ensures { λ r. ⌜ r ≡ letterAt (fieldsOf (now (line .entry))) j ⌝ }
 {
     letter_of(field(line, j))
 }

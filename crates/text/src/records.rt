@@ -15,7 +15,7 @@ use mechanism::part::Sweep;
 use mechanism::pose::Entry;
 ghost use mathlib.Core.Path.{_≡_};
 ghost use Prim.Native.Nat.{_<_};
-ghost use Rattle.text.specs.Pieces.{split};
+ghost use Rattle.text.specs.Pieces.{fieldsOf};
 ghost use Rattle.text.specs.Records.{pointAt, dirAt, rangeAt, roleOf, ends, sides, pairs, outlines, parts, joints, firstFit, recordOf};
 
 pub enum Record {
@@ -48,7 +48,7 @@ pub enum Record {
 // The point, and the direction, whose two floats start at the field j.
 fn point_at(line: &[u8], j: usize) -> Point
     requires { ⌜ j < 16 ⌝ }
-    ensures { λ r. ⌜ r ≡ pointAt (split 44 (now (line .entry))) j ⌝ }
+    ensures { λ r. ⌜ r ≡ pointAt (fieldsOf (now (line .entry))) j ⌝ }
 {
     Point {
         x: real_at(line, j),
@@ -58,7 +58,7 @@ fn point_at(line: &[u8], j: usize) -> Point
 
 fn dir_at(line: &[u8], j: usize) -> Dir
     requires { ⌜ j < 16 ⌝ }
-    ensures { λ r. ⌜ r ≡ dirAt (split 44 (now (line .entry))) j ⌝ }
+    ensures { λ r. ⌜ r ≡ dirAt (fieldsOf (now (line .entry))) j ⌝ }
 {
     let x = real_at(line, j);
     let y = real_at(line, j + 1);
@@ -67,7 +67,7 @@ fn dir_at(line: &[u8], j: usize) -> Dir
 
 // The range of an S line.
 fn range_at(line: &[u8]) -> SurfaceRef
-    ensures { λ r. ⌜ r ≡ rangeAt (split 44 (now (line .entry))) ⌝ }
+    ensures { λ r. ⌜ r ≡ rangeAt (fieldsOf (now (line .entry))) ⌝ }
 {
     SurfaceRef {
         part: number_at(line, 2),
@@ -79,10 +79,10 @@ fn range_at(line: &[u8]) -> SurfaceRef
 fn role_of(b: u8) -> Role
     ensures { λ r. ⌜ r ≡ roleOf b ⌝ }
 {
-    if b == 83 {
+    if b == b'S' {
         return Role::Solid;
     }
-    if b == 67 {
+    if b == b'C' {
         return Role::Cut;
     }
     Role::Lining
@@ -90,7 +90,7 @@ fn role_of(b: u8) -> Role
 
 // The forms of G and T.
 fn end_record(line: &[u8]) -> Record
-    ensures { λ r. ⌜ r ≡ firstFit ends (split 44 (now (line .entry))) ⌝ }
+    ensures { λ r. ⌜ r ≡ firstFit ends (fieldsOf (now (line .entry))) ⌝ }
 {
     if fits(line, b"Gf") {
         return Record::Margin(real_at(line, 1));
@@ -107,7 +107,7 @@ fn end_record(line: &[u8]) -> Record
 
 // The forms of S, then those after it.
 fn side_record(line: &[u8]) -> Record
-    ensures { λ r. ⌜ r ≡ firstFit sides (split 44 (now (line .entry))) ⌝ }
+    ensures { λ r. ⌜ r ≡ firstFit sides (fieldsOf (now (line .entry))) ⌝ }
 {
     if fits(line, b"SAnnn") {
         return Record::OnA(range_at(line));
@@ -120,7 +120,7 @@ fn side_record(line: &[u8]) -> Record
 
 // The forms of K, then those after it.
 fn pair_record(line: &[u8]) -> Record
-    ensures { λ r. ⌜ r ≡ firstFit pairs (split 44 (now (line .entry))) ⌝ }
+    ensures { λ r. ⌜ r ≡ firstFit pairs (fieldsOf (now (line .entry))) ⌝ }
 {
     if fits(line, b"KF") {
         return Record::Paired(PairGeometry::Features);
@@ -133,7 +133,7 @@ fn pair_record(line: &[u8]) -> Record
 
 // The forms of L and A, then those after them.
 fn outline_record(line: &[u8]) -> Record
-    ensures { λ r. ⌜ r ≡ firstFit outlines (split 44 (now (line .entry))) ⌝ }
+    ensures { λ r. ⌜ r ≡ firstFit outlines (fieldsOf (now (line .entry))) ⌝ }
 {
     if fits(line, b"Lffff") {
         return Record::Edge(Seg::Line {
@@ -154,7 +154,7 @@ fn outline_record(line: &[u8]) -> Record
 
 // The forms of P, then those after it.
 fn part_record(line: &[u8]) -> Record
-    ensures { λ r. ⌜ r ≡ firstFit parts (split 44 (now (line .entry))) ⌝ }
+    ensures { λ r. ⌜ r ≡ firstFit parts (fieldsOf (now (line .entry))) ⌝ }
 {
     if fits(line, b"PnrEff") {
         return Record::Drawn {
@@ -198,7 +198,7 @@ fn part_record(line: &[u8]) -> Record
 
 // The forms of J, then those after it.
 fn joint_record(line: &[u8]) -> Record
-    ensures { λ r. ⌜ r ≡ firstFit joints (split 44 (now (line .entry))) ⌝ }
+    ensures { λ r. ⌜ r ≡ firstFit joints (fieldsOf (now (line .entry))) ⌝ }
 {
     if fits(line, b"JGn") {
         return Record::Joined(Body {
@@ -230,7 +230,7 @@ fn joint_record(line: &[u8]) -> Record
 
 // The record that a line is: the first form that it fits says.
 pub fn record_of(line: &[u8]) -> Record
-    ensures { λ r. ⌜ r ≡ recordOf (split 44 (now (line .entry))) ⌝ }
+    ensures { λ r. ⌜ r ≡ recordOf (fieldsOf (now (line .entry))) ⌝ }
 {
     if fits(line, b"Mn") {
         return Record::Coords(number_at(line, 1));

@@ -72,8 +72,8 @@ number-of-spec =
     is-digit-requires
     returns-2
     mul-v
-    cast-v
     sub-v
+    cast-v
     add-v
     returns-3
     add-i
