@@ -81,11 +81,11 @@ fn refuse(p: Problem) -> Sheet
 }
 
 // The end of a text: whether it may end there, the line after its last, and whether it kept within the limits.
-fn end(whole: bool, line: usize, good: bool, t: Tally, d: Draft, seg: [OutlineSeg; 384]) -> Sheet
-    ensures { λ r. ⌜ r ≡ ended whole line good (accepted t d seg) ⌝ }
+fn end(fit: bool, line: usize, kept: bool, t: Tally, d: Draft, seg: [OutlineSeg; 384]) -> Sheet
+    ensures { λ r. ⌜ r ≡ ended fit line kept (accepted t d seg) ⌝ }
 {
-    if whole {
-        if good {
+    if fit {
+        if kept {
             return accept(t, d, seg);
         }
         return refuse(Problem::LimitPassed);

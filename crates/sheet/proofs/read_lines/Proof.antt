@@ -27,27 +27,40 @@ no-lines-requires : tie.Need-no-lines-requires Inv-loop μ-loop
 no-lines-requires c κs = search needs
 
 loop-holds : tie.Need-loop-holds Inv-loop μ-loop
-loop-holds c = rw (c .before .before .no-seg .ensures) (reading-starts (c .before .before .before .before .args .text .now) (c .before .no-draft .result) (c .no-lines .result) (c .before .no-draft .ensures) (c .no-lines .ensures))
+loop-holds c =
+    let no-seg = c .before .before .no-seg in
+    let args = c .before .before .before .before .args in
+    let no-draft = c .before .no-draft in
+    rw (no-seg .ensures) (reading-starts (args .text .now) (no-draft .result) (c .no-lines .result) (no-draft .ensures) (c .no-lines .ensures))
 
 find-requires : tie.Need-find-requires Inv-loop μ-loop
 find-requires c κs = search needs
 
 sub-line : tie.Need-sub-line Inv-loop μ-loop
 sub-line c =
-    let p = line-piece (c .before .before .before .before .before .before .args .text .now) (c .before .loop .seg) (c .before .loop .made) (c .before .loop .tally) (c .before .loop .good) (c .before .loop .headed) (c .before .loop .stage) (c .before .loop .n) (c .before .loop .at) (c .find .result) (c .before .loop .inv) (c .find .ensures) in
-    let q = c .before .before .before .before .before .before .pre in
+    let args = c .before .before .before .before .before .before .args in
+    let loop = c .before .loop in
+    let pre = c .before .before .before .before .before .before .pre in
+    let p = line-piece (args .text .now) (loop .seg) (loop .made) (loop .tally) (loop .good) (loop .headed) (loop .stage) (loop .n) (loop .at) (c .find .result) (loop .inv) (c .find .ensures) in
+    let q = pre in
     omega arith
 
 part-line-start : tie.Need-part-line-start Inv-loop μ-loop
 part-line-start c =
-    let p = line-piece (c .before .before .before .before .before .before .args .text .now) (c .before .loop .seg) (c .before .loop .made) (c .before .loop .tally) (c .before .loop .good) (c .before .loop .headed) (c .before .loop .stage) (c .before .loop .n) (c .before .loop .at) (c .find .result) (c .before .loop .inv) (c .find .ensures) in
-    let q = c .before .before .before .before .before .before .pre in
+    let args = c .before .before .before .before .before .before .args in
+    let loop = c .before .loop in
+    let pre = c .before .before .before .before .before .before .pre in
+    let p = line-piece (args .text .now) (loop .seg) (loop .made) (loop .tally) (loop .good) (loop .headed) (loop .stage) (loop .n) (loop .at) (c .find .result) (loop .inv) (c .find .ensures) in
+    let q = pre in
     omega arith
 
 part-line-end : tie.Need-part-line-end Inv-loop μ-loop
 part-line-end c =
-    let p = line-piece (c .before .before .before .before .before .before .args .text .now) (c .before .loop .seg) (c .before .loop .made) (c .before .loop .tally) (c .before .loop .good) (c .before .loop .headed) (c .before .loop .stage) (c .before .loop .n) (c .before .loop .at) (c .find .result) (c .before .loop .inv) (c .find .ensures) in
-    let q = c .before .before .before .before .before .before .pre in
+    let args = c .before .before .before .before .before .before .args in
+    let loop = c .before .loop in
+    let pre = c .before .before .before .before .before .before .pre in
+    let p = line-piece (args .text .now) (loop .seg) (loop .made) (loop .tally) (loop .good) (loop .headed) (loop .stage) (loop .n) (loop .at) (c .find .result) (loop .inv) (c .find .ensures) in
+    let q = pre in
     omega arith
 
 may-end-requires : tie.Need-may-end-requires Inv-loop μ-loop
@@ -58,8 +71,12 @@ end-requires c κs = search needs
 
 returns : tie.Need-returns Inv-loop μ-loop
 returns c =
-    c .end .ensures ∙ ap (λ b. ended b (c .before .before .before .before .before .loop .n) (c .before .before .before .before .before .loop .good) (accepted (c .before .before .before .before .before .loop .tally) (c .before .before .before .before .before .loop .made) (c .before .before .before .before .before .loop .seg))) (c .before .may-end .ensures)
-    ∙ at-end (c .before .before .before .before .before .before .before .before .before .before .args .text .now) (c .before .before .before .before .before .loop .seg) (c .before .before .before .before .before .loop .made) (c .before .before .before .before .before .loop .tally) (c .before .before .before .before .before .loop .good) (c .before .before .before .before .before .loop .headed) (c .before .before .before .before .before .loop .stage) (c .before .before .before .before .before .loop .n) (c .before .before .before .before .before .loop .at) (c .before .before .before .before .find .result) (c .before .before .before .before .before .loop .inv) (c .before .before .before .before .find .ensures) (c .before .before .if1 .taken)
+    let loop = c .before .before .before .before .before .loop in
+    let args = c .before .before .before .before .before .before .before .before .before .before .args in
+    let find = c .before .before .before .before .find in
+    let if1 = c .before .before .if1 in
+    c .end .ensures ∙ ap (λ b. ended b (loop .n) (loop .good) (accepted (loop .tally) (loop .made) (loop .seg))) (c .before .may-end .ensures)
+    ∙ at-end (args .text .now) (loop .seg) (loop .made) (loop .tally) (loop .good) (loop .headed) (loop .stage) (loop .n) (loop .at) (find .result) (loop .inv) (find .ensures) (if1 .taken)
 
 record-of-requires : tie.Need-record-of-requires Inv-loop μ-loop
 record-of-requires c κs = search needs
@@ -72,8 +89,14 @@ refuse-requires c κs = search needs
 
 returns-2 : tie.Need-returns-2 Inv-loop μ-loop
 returns-2 c =
+    let args = c .before .before .before .before .before .before .before .before .before .before .before .before .args in
+    let loop = c .before .before .before .before .before .before .before .loop in
+    let find = c .before .before .before .before .before .before .find in
+    let if1 = c .before .before .before .before .if1 in
+    let record-of = c .before .before .before .record-of in
+    let may-follow = c .before .before .may-follow in
     c .refuse .ensures
-    ∙ out-of-order (c .before .before .before .before .before .before .before .before .before .before .before .before .args .text .now) (c .before .before .before .before .before .before .before .loop .seg) (c .before .before .before .before .before .before .before .loop .made) (c .before .before .before .before .before .before .before .loop .tally) (c .before .before .before .before .before .before .before .loop .good) (c .before .before .before .before .before .before .before .loop .headed) (c .before .before .before .before .before .before .before .loop .stage) (c .before .before .before .before .before .before .before .loop .n) (c .before .before .before .before .before .before .before .loop .at) (c .before .before .before .before .before .before .find .result) (c .before .before .before .before .before .before .before .loop .inv) (c .before .before .before .before .before .before .find .ensures) (c .before .before .before .before .if1 .left) (c .before .before .before .record-of .result) (c .before .before .before .record-of .ensures) (sym (c .before .before .may-follow .ensures) ∙ not-true _ (c .before .if2 .taken))
+    ∙ out-of-order (args .text .now) (loop .seg) (loop .made) (loop .tally) (loop .good) (loop .headed) (loop .stage) (loop .n) (loop .at) (find .result) (loop .inv) (find .ensures) (if1 .left) (record-of .result) (record-of .ensures) (sym (may-follow .ensures) ∙ not-true _ (c .before .if2 .taken))
 
 kind-of-requires : tie.Need-kind-of-requires Inv-loop μ-loop
 kind-of-requires c κs = search needs
@@ -83,73 +106,169 @@ stage-after-requires c κs = search needs
 
 add-n : tie.Need-add-n Inv-loop μ-loop
 add-n c =
-    let p = line-piece (c .before .before .before .before .before .before .before .before .before .before .before .before .before .args .text .now) (c .before .before .before .before .before .before .before .before .loop .seg) (c .before .before .before .before .before .before .before .before .loop .made) (c .before .before .before .before .before .before .before .before .loop .tally) (c .before .before .before .before .before .before .before .before .loop .good) (c .before .before .before .before .before .before .before .before .loop .headed) (c .before .before .before .before .before .before .before .before .loop .stage) (c .before .before .before .before .before .before .before .before .loop .n) (c .before .before .before .before .before .before .before .before .loop .at) (c .before .before .before .before .before .before .before .find .result) (c .before .before .before .before .before .before .before .before .loop .inv) (c .before .before .before .before .before .before .before .find .ensures) in
-    let q = c .before .before .before .before .before .before .before .before .before .before .before .before .before .pre in
+    let args = c .before .before .before .before .before .before .before .before .before .before .before .before .before .args in
+    let loop = c .before .before .before .before .before .before .before .before .loop in
+    let find = c .before .before .before .before .before .before .before .find in
+    let pre = c .before .before .before .before .before .before .before .before .before .before .before .before .before .pre in
+    let p = line-piece (args .text .now) (loop .seg) (loop .made) (loop .tally) (loop .good) (loop .headed) (loop .stage) (loop .n) (loop .at) (find .result) (loop .inv) (find .ensures) in
+    let q = pre in
     omega arith
 
 add-at : tie.Need-add-at Inv-loop μ-loop
 add-at c =
-    let p = line-piece (c .before .before .before .before .before .before .before .before .before .before .before .before .before .args .text .now) (c .before .before .before .before .before .before .before .before .loop .seg) (c .before .before .before .before .before .before .before .before .loop .made) (c .before .before .before .before .before .before .before .before .loop .tally) (c .before .before .before .before .before .before .before .before .loop .good) (c .before .before .before .before .before .before .before .before .loop .headed) (c .before .before .before .before .before .before .before .before .loop .stage) (c .before .before .before .before .before .before .before .before .loop .n) (c .before .before .before .before .before .before .before .before .loop .at) (c .before .before .before .before .before .before .before .find .result) (c .before .before .before .before .before .before .before .before .loop .inv) (c .before .before .before .before .before .before .before .find .ensures) in
-    let q = c .before .before .before .before .before .before .before .before .before .before .before .before .before .pre in
+    let args = c .before .before .before .before .before .before .before .before .before .before .before .before .before .args in
+    let loop = c .before .before .before .before .before .before .before .before .loop in
+    let find = c .before .before .before .before .before .before .before .find in
+    let pre = c .before .before .before .before .before .before .before .before .before .before .before .before .before .pre in
+    let p = line-piece (args .text .now) (loop .seg) (loop .made) (loop .tally) (loop .good) (loop .headed) (loop .stage) (loop .n) (loop .at) (find .result) (loop .inv) (find .ensures) in
+    let q = pre in
     omega arith
 
 count-requires : tie.Need-count-requires Inv-loop μ-loop
-count-requires c κs = (c .before .before .before .before .before .before .before .before .before .loop .inv .bounded (c .if3 .taken), subst Narrow (sym (c .before .before .before .before .before .record-of .ensures)) (narrow _))
+count-requires c κs =
+    let loop = c .before .before .before .before .before .before .before .before .before .loop in
+    let record-of = c .before .before .before .before .before .record-of in
+    (loop .inv .bounded (c .if3 .taken), subst Narrow (sym (record-of .ensures)) (narrow _))
 
 within-requires : tie.Need-within-requires Inv-loop μ-loop
 within-requires c κs = search needs
 
 put-requires : tie.Need-put-requires Inv-loop μ-loop
-put-requires c κs = room (c .before .before .before .before .before .before .before .before .before .before .before .before .loop .tally) (c .before .before .before .before .before .before .before .before .record-of .result) (bounds (counted (c .before .before .before .before .before .before .before .before .before .before .before .before .loop .tally) (c .before .before .before .before .before .before .before .before .record-of .result)) (ap withinLimits (sym (c .before .before .count .ensures)) ∙ sym (c .before .within .ensures) ∙ c .if4 .taken))
+put-requires c κs =
+    let loop = c .before .before .before .before .before .before .before .before .before .before .before .before .loop in
+    let record-of = c .before .before .before .before .before .before .before .before .record-of in
+    let count = c .before .before .count in
+    room (loop .tally) (record-of .result) (bounds (counted (loop .tally) (record-of .result)) (ap withinLimits (sym (count .ensures)) ∙ sym (c .before .within .ensures) ∙ c .if4 .taken))
 
 edge-of-requires : tie.Need-edge-of-requires Inv-loop μ-loop
 edge-of-requires c κs = search needs
 
 mul-seg : tie.Need-mul-seg Inv-loop μ-loop
 mul-seg c =
-    let b = bounds (counted (c .before .before .before .before .before .before .before .before .before .before .before .before .before .before .before .loop .tally) (c .before .before .before .before .before .before .before .before .before .before .before .record-of .result)) (ap withinLimits (sym (c .before .before .before .before .before .count .ensures)) ∙ sym (c .before .before .before .before .within .ensures) ∙ c .before .before .before .if4 .taken) in
-    omega (arith, b .segs, one-edge (c .before .before .before .before .before .before .before .before .before .before .before .before .before .before .before .loop .tally) (c .before .before .before .before .before .before .before .before .before .before .before .record-of .result) (sym (c .before .before .before .before .before .before .before .before .kind-of .ensures) ∙ c .before .if5 .taken))
+    let loop = c .before .before .before .before .before .before .before .before .before .before .before .before .before .before .before .loop in
+    let record-of = c .before .before .before .before .before .before .before .before .before .before .before .record-of in
+    let count = c .before .before .before .before .before .count in
+    let within = c .before .before .before .before .within in
+    let if4 = c .before .before .before .if4 in
+    let kind-of = c .before .before .before .before .before .before .before .before .kind-of in
+    let b = bounds (counted (loop .tally) (record-of .result)) (ap withinLimits (sym (count .ensures)) ∙ sym (within .ensures) ∙ if4 .taken) in
+    omega (arith, b .segs, one-edge (loop .tally) (record-of .result) (sym (kind-of .ensures) ∙ c .before .if5 .taken))
 
 array-set-from-seg : tie.Need-array-set-from-seg Inv-loop μ-loop
 array-set-from-seg c =
-    let b = bounds (counted (c .before .before .before .before .before .before .before .before .before .before .before .before .before .before .before .loop .tally) (c .before .before .before .before .before .before .before .before .before .before .before .record-of .result)) (ap withinLimits (sym (c .before .before .before .before .before .count .ensures)) ∙ sym (c .before .before .before .before .within .ensures) ∙ c .before .before .before .if4 .taken) in
-    omega (arith, b .segs, one-edge (c .before .before .before .before .before .before .before .before .before .before .before .before .before .before .before .loop .tally) (c .before .before .before .before .before .before .before .before .before .before .before .record-of .result) (sym (c .before .before .before .before .before .before .before .before .kind-of .ensures) ∙ c .before .if5 .taken))
+    let loop = c .before .before .before .before .before .before .before .before .before .before .before .before .before .before .before .loop in
+    let record-of = c .before .before .before .before .before .before .before .before .before .before .before .record-of in
+    let count = c .before .before .before .before .before .count in
+    let within = c .before .before .before .before .within in
+    let if4 = c .before .before .before .if4 in
+    let kind-of = c .before .before .before .before .before .before .before .before .kind-of in
+    let b = bounds (counted (loop .tally) (record-of .result)) (ap withinLimits (sym (count .ensures)) ∙ sym (within .ensures) ∙ if4 .taken) in
+    omega (arith, b .segs, one-edge (loop .tally) (record-of .result) (sym (kind-of .ensures) ∙ c .before .if5 .taken))
 
 loop-less : tie.Need-loop-less Inv-loop μ-loop
 loop-less c =
-    let p = line-piece (c .before .before .before .before .before .before .before .before .before .before .before .before .before .before .before .before .before .before .before .before .args .text .now) (c .before .before .before .before .before .before .before .before .before .before .before .before .before .before .before .loop .seg) (c .before .before .before .before .before .before .before .before .before .before .before .before .before .before .before .loop .made) (c .before .before .before .before .before .before .before .before .before .before .before .before .before .before .before .loop .tally) (c .before .before .before .before .before .before .before .before .before .before .before .before .before .before .before .loop .good) (c .before .before .before .before .before .before .before .before .before .before .before .before .before .before .before .loop .headed) (c .before .before .before .before .before .before .before .before .before .before .before .before .before .before .before .loop .stage) (c .before .before .before .before .before .before .before .before .before .before .before .before .before .before .before .loop .n) (c .before .before .before .before .before .before .before .before .before .before .before .before .before .before .before .loop .at) (c .before .before .before .before .before .before .before .before .before .before .before .before .before .before .find .result) (c .before .before .before .before .before .before .before .before .before .before .before .before .before .before .before .loop .inv) (c .before .before .before .before .before .before .before .before .before .before .before .before .before .before .find .ensures) in
-    let q = c .before .before .before .before .before .before .before .before .before .before .before .before .before .before .before .before .before .before .before .before .pre in
+    let args = c .before .before .before .before .before .before .before .before .before .before .before .before .before .before .before .before .before .before .before .before .args in
+    let loop = c .before .before .before .before .before .before .before .before .before .before .before .before .before .before .before .loop in
+    let find = c .before .before .before .before .before .before .before .before .before .before .before .before .before .before .find in
+    let pre = c .before .before .before .before .before .before .before .before .before .before .before .before .before .before .before .before .before .before .before .before .pre in
+    let p = line-piece (args .text .now) (loop .seg) (loop .made) (loop .tally) (loop .good) (loop .headed) (loop .stage) (loop .n) (loop .at) (find .result) (loop .inv) (find .ensures) in
+    let q = pre in
     omega arith
 
 loop-again : tie.Need-loop-again Inv-loop μ-loop
-loop-again c = reads-edge (c .before .before .before .before .before .before .before .before .before .before .before .before .before .before .before .before .before .before .before .before .args .text .now) (c .before .before .before .before .before .before .before .before .before .before .before .before .before .before .before .loop .seg) (c .before .before .before .before .before .before .before .before .before .before .before .before .before .before .before .loop .made) (c .before .before .before .before .before .before .before .before .before .before .before .before .before .before .before .loop .tally) (c .before .before .before .before .before .before .before .before .before .before .before .before .before .before .before .loop .good) (c .before .before .before .before .before .before .before .before .before .before .before .before .before .before .before .loop .headed) (c .before .before .before .before .before .before .before .before .before .before .before .before .before .before .before .loop .stage) (c .before .before .before .before .before .before .before .before .before .before .before .before .before .before .before .loop .n) (c .before .before .before .before .before .before .before .before .before .before .before .before .before .before .before .loop .at) (c .before .before .before .before .before .before .before .before .before .before .before .before .before .before .find .result) (c .before .before .before .before .before .before .before .before .before .before .before .before .before .before .before .loop .inv) (c .before .before .before .before .before .before .before .before .before .before .before .before .before .before .find .ensures) (c .before .before .before .before .before .before .before .before .before .before .before .before .if1 .left) (c .before .before .before .before .before .before .before .before .before .before .before .record-of .result) (c .before .before .before .before .before .before .before .before .before .before .before .record-of .ensures) (sym (c .before .before .before .before .before .before .before .before .before .before .may-follow .ensures) ∙ not-false _ (c .before .before .before .before .before .before .before .before .before .if2 .left)) (c .before .before .before .before .before .before .before .before .kind-of .result) (c .before .before .before .before .before .before .before .stage-after .result) (c .before .before .before .before .before .before .before .before .kind-of .ensures) (c .before .before .before .before .before .before .before .stage-after .ensures) (c .before .before .before .before .before .before .if3 .taken) (c .before .before .before .before .before .count .result) (c .before .before .before .before .within .result) (c .before .before .before .before .before .count .ensures) (c .before .before .before .before .within .ensures) (c .before .before .before .if4 .taken) (c .before .before .put .result) (c .before .before .put .ensures) (c .before .if5 .taken) (c .edge-of .result) (c .edge-of .ensures)
+loop-again c =
+    let args = c .before .before .before .before .before .before .before .before .before .before .before .before .before .before .before .before .before .before .before .before .args in
+    let loop = c .before .before .before .before .before .before .before .before .before .before .before .before .before .before .before .loop in
+    let find = c .before .before .before .before .before .before .before .before .before .before .before .before .before .before .find in
+    let if1 = c .before .before .before .before .before .before .before .before .before .before .before .before .if1 in
+    let record-of = c .before .before .before .before .before .before .before .before .before .before .before .record-of in
+    let may-follow = c .before .before .before .before .before .before .before .before .before .before .may-follow in
+    let if2 = c .before .before .before .before .before .before .before .before .before .if2 in
+    let kind-of = c .before .before .before .before .before .before .before .before .kind-of in
+    let stage-after = c .before .before .before .before .before .before .before .stage-after in
+    let if3 = c .before .before .before .before .before .before .if3 in
+    let count = c .before .before .before .before .before .count in
+    let within = c .before .before .before .before .within in
+    let if4 = c .before .before .before .if4 in
+    let put = c .before .before .put in
+    reads-edge (args .text .now) (loop .seg) (loop .made) (loop .tally) (loop .good) (loop .headed) (loop .stage) (loop .n) (loop .at) (find .result) (loop .inv) (find .ensures) (if1 .left) (record-of .result) (record-of .ensures) (sym (may-follow .ensures) ∙ not-false _ (if2 .left)) (kind-of .result) (stage-after .result) (kind-of .ensures) (stage-after .ensures) (if3 .taken) (count .result) (within .result) (count .ensures) (within .ensures) (if4 .taken) (put .result) (put .ensures) (c .before .if5 .taken) (c .edge-of .result) (c .edge-of .ensures)
 
 loop-less-2 : tie.Need-loop-less-2 Inv-loop μ-loop
 loop-less-2 c =
-    let p = line-piece (c .before .before .before .before .before .before .before .before .before .before .before .before .before .before .before .before .before .before .before .args .text .now) (c .before .before .before .before .before .before .before .before .before .before .before .before .before .before .loop .seg) (c .before .before .before .before .before .before .before .before .before .before .before .before .before .before .loop .made) (c .before .before .before .before .before .before .before .before .before .before .before .before .before .before .loop .tally) (c .before .before .before .before .before .before .before .before .before .before .before .before .before .before .loop .good) (c .before .before .before .before .before .before .before .before .before .before .before .before .before .before .loop .headed) (c .before .before .before .before .before .before .before .before .before .before .before .before .before .before .loop .stage) (c .before .before .before .before .before .before .before .before .before .before .before .before .before .before .loop .n) (c .before .before .before .before .before .before .before .before .before .before .before .before .before .before .loop .at) (c .before .before .before .before .before .before .before .before .before .before .before .before .before .find .result) (c .before .before .before .before .before .before .before .before .before .before .before .before .before .before .loop .inv) (c .before .before .before .before .before .before .before .before .before .before .before .before .before .find .ensures) in
-    let q = c .before .before .before .before .before .before .before .before .before .before .before .before .before .before .before .before .before .before .before .pre in
+    let args = c .before .before .before .before .before .before .before .before .before .before .before .before .before .before .before .before .before .before .before .args in
+    let loop = c .before .before .before .before .before .before .before .before .before .before .before .before .before .before .loop in
+    let find = c .before .before .before .before .before .before .before .before .before .before .before .before .before .find in
+    let pre = c .before .before .before .before .before .before .before .before .before .before .before .before .before .before .before .before .before .before .before .pre in
+    let p = line-piece (args .text .now) (loop .seg) (loop .made) (loop .tally) (loop .good) (loop .headed) (loop .stage) (loop .n) (loop .at) (find .result) (loop .inv) (find .ensures) in
+    let q = pre in
     omega arith
 
 loop-again-2 : tie.Need-loop-again-2 Inv-loop μ-loop
-loop-again-2 c = reads-on (c .before .before .before .before .before .before .before .before .before .before .before .before .before .before .before .before .before .before .before .args .text .now) (c .before .before .before .before .before .before .before .before .before .before .before .before .before .before .loop .seg) (c .before .before .before .before .before .before .before .before .before .before .before .before .before .before .loop .made) (c .before .before .before .before .before .before .before .before .before .before .before .before .before .before .loop .tally) (c .before .before .before .before .before .before .before .before .before .before .before .before .before .before .loop .good) (c .before .before .before .before .before .before .before .before .before .before .before .before .before .before .loop .headed) (c .before .before .before .before .before .before .before .before .before .before .before .before .before .before .loop .stage) (c .before .before .before .before .before .before .before .before .before .before .before .before .before .before .loop .n) (c .before .before .before .before .before .before .before .before .before .before .before .before .before .before .loop .at) (c .before .before .before .before .before .before .before .before .before .before .before .before .before .find .result) (c .before .before .before .before .before .before .before .before .before .before .before .before .before .before .loop .inv) (c .before .before .before .before .before .before .before .before .before .before .before .before .before .find .ensures) (c .before .before .before .before .before .before .before .before .before .before .before .if1 .left) (c .before .before .before .before .before .before .before .before .before .before .record-of .result) (c .before .before .before .before .before .before .before .before .before .before .record-of .ensures) (sym (c .before .before .before .before .before .before .before .before .before .may-follow .ensures) ∙ not-false _ (c .before .before .before .before .before .before .before .before .if2 .left)) (c .before .before .before .before .before .before .before .kind-of .result) (c .before .before .before .before .before .before .stage-after .result) (c .before .before .before .before .before .before .before .kind-of .ensures) (c .before .before .before .before .before .before .stage-after .ensures) (c .before .before .before .before .before .if3 .taken) (c .before .before .before .before .count .result) (c .before .before .before .within .result) (c .before .before .before .before .count .ensures) (c .before .before .before .within .ensures) (c .before .before .if4 .taken) (c .before .put .result) (c .before .put .ensures) (c .if5 .left)
+loop-again-2 c =
+    let args = c .before .before .before .before .before .before .before .before .before .before .before .before .before .before .before .before .before .before .before .args in
+    let loop = c .before .before .before .before .before .before .before .before .before .before .before .before .before .before .loop in
+    let find = c .before .before .before .before .before .before .before .before .before .before .before .before .before .find in
+    let if1 = c .before .before .before .before .before .before .before .before .before .before .before .if1 in
+    let record-of = c .before .before .before .before .before .before .before .before .before .before .record-of in
+    let may-follow = c .before .before .before .before .before .before .before .before .before .may-follow in
+    let if2 = c .before .before .before .before .before .before .before .before .if2 in
+    let kind-of = c .before .before .before .before .before .before .before .kind-of in
+    let stage-after = c .before .before .before .before .before .before .stage-after in
+    let if3 = c .before .before .before .before .before .if3 in
+    let count = c .before .before .before .before .count in
+    let within = c .before .before .before .within in
+    let if4 = c .before .before .if4 in
+    let put = c .before .put in
+    reads-on (args .text .now) (loop .seg) (loop .made) (loop .tally) (loop .good) (loop .headed) (loop .stage) (loop .n) (loop .at) (find .result) (loop .inv) (find .ensures) (if1 .left) (record-of .result) (record-of .ensures) (sym (may-follow .ensures) ∙ not-false _ (if2 .left)) (kind-of .result) (stage-after .result) (kind-of .ensures) (stage-after .ensures) (if3 .taken) (count .result) (within .result) (count .ensures) (within .ensures) (if4 .taken) (put .result) (put .ensures) (c .if5 .left)
 
 loop-less-3 : tie.Need-loop-less-3 Inv-loop μ-loop
 loop-less-3 c =
-    let p = line-piece (c .before .before .before .before .before .before .before .before .before .before .before .before .before .before .before .before .before .args .text .now) (c .before .before .before .before .before .before .before .before .before .before .before .before .loop .seg) (c .before .before .before .before .before .before .before .before .before .before .before .before .loop .made) (c .before .before .before .before .before .before .before .before .before .before .before .before .loop .tally) (c .before .before .before .before .before .before .before .before .before .before .before .before .loop .good) (c .before .before .before .before .before .before .before .before .before .before .before .before .loop .headed) (c .before .before .before .before .before .before .before .before .before .before .before .before .loop .stage) (c .before .before .before .before .before .before .before .before .before .before .before .before .loop .n) (c .before .before .before .before .before .before .before .before .before .before .before .before .loop .at) (c .before .before .before .before .before .before .before .before .before .before .before .find .result) (c .before .before .before .before .before .before .before .before .before .before .before .before .loop .inv) (c .before .before .before .before .before .before .before .before .before .before .before .find .ensures) in
-    let q = c .before .before .before .before .before .before .before .before .before .before .before .before .before .before .before .before .before .pre in
+    let args = c .before .before .before .before .before .before .before .before .before .before .before .before .before .before .before .before .before .args in
+    let loop = c .before .before .before .before .before .before .before .before .before .before .before .before .loop in
+    let find = c .before .before .before .before .before .before .before .before .before .before .before .find in
+    let pre = c .before .before .before .before .before .before .before .before .before .before .before .before .before .before .before .before .before .pre in
+    let p = line-piece (args .text .now) (loop .seg) (loop .made) (loop .tally) (loop .good) (loop .headed) (loop .stage) (loop .n) (loop .at) (find .result) (loop .inv) (find .ensures) in
+    let q = pre in
     omega arith
 
 loop-again-3 : tie.Need-loop-again-3 Inv-loop μ-loop
-loop-again-3 c = reads-over (c .before .before .before .before .before .before .before .before .before .before .before .before .before .before .before .before .before .args .text .now) (c .before .before .before .before .before .before .before .before .before .before .before .before .loop .seg) (c .before .before .before .before .before .before .before .before .before .before .before .before .loop .made) (c .before .before .before .before .before .before .before .before .before .before .before .before .loop .tally) (c .before .before .before .before .before .before .before .before .before .before .before .before .loop .good) (c .before .before .before .before .before .before .before .before .before .before .before .before .loop .headed) (c .before .before .before .before .before .before .before .before .before .before .before .before .loop .stage) (c .before .before .before .before .before .before .before .before .before .before .before .before .loop .n) (c .before .before .before .before .before .before .before .before .before .before .before .before .loop .at) (c .before .before .before .before .before .before .before .before .before .before .before .find .result) (c .before .before .before .before .before .before .before .before .before .before .before .before .loop .inv) (c .before .before .before .before .before .before .before .before .before .before .before .find .ensures) (c .before .before .before .before .before .before .before .before .before .if1 .left) (c .before .before .before .before .before .before .before .before .record-of .result) (c .before .before .before .before .before .before .before .before .record-of .ensures) (sym (c .before .before .before .before .before .before .before .may-follow .ensures) ∙ not-false _ (c .before .before .before .before .before .before .if2 .left)) (c .before .before .before .before .before .kind-of .result) (c .before .before .before .before .stage-after .result) (c .before .before .before .before .before .kind-of .ensures) (c .before .before .before .before .stage-after .ensures) (c .before .before .before .if3 .taken) (c .before .before .count .result) (c .before .within .result) (c .before .before .count .ensures) (c .before .within .ensures) (c .if4 .left)
+loop-again-3 c =
+    let args = c .before .before .before .before .before .before .before .before .before .before .before .before .before .before .before .before .before .args in
+    let loop = c .before .before .before .before .before .before .before .before .before .before .before .before .loop in
+    let find = c .before .before .before .before .before .before .before .before .before .before .before .find in
+    let if1 = c .before .before .before .before .before .before .before .before .before .if1 in
+    let record-of = c .before .before .before .before .before .before .before .before .record-of in
+    let may-follow = c .before .before .before .before .before .before .before .may-follow in
+    let if2 = c .before .before .before .before .before .before .if2 in
+    let kind-of = c .before .before .before .before .before .kind-of in
+    let stage-after = c .before .before .before .before .stage-after in
+    let if3 = c .before .before .before .if3 in
+    let count = c .before .before .count in
+    let within = c .before .within in
+    reads-over (args .text .now) (loop .seg) (loop .made) (loop .tally) (loop .good) (loop .headed) (loop .stage) (loop .n) (loop .at) (find .result) (loop .inv) (find .ensures) (if1 .left) (record-of .result) (record-of .ensures) (sym (may-follow .ensures) ∙ not-false _ (if2 .left)) (kind-of .result) (stage-after .result) (kind-of .ensures) (stage-after .ensures) (if3 .taken) (count .result) (within .result) (count .ensures) (within .ensures) (c .if4 .left)
 
 loop-less-4 : tie.Need-loop-less-4 Inv-loop μ-loop
 loop-less-4 c =
-    let p = line-piece (c .before .before .before .before .before .before .before .before .before .before .before .before .before .before .args .text .now) (c .before .before .before .before .before .before .before .before .before .loop .seg) (c .before .before .before .before .before .before .before .before .before .loop .made) (c .before .before .before .before .before .before .before .before .before .loop .tally) (c .before .before .before .before .before .before .before .before .before .loop .good) (c .before .before .before .before .before .before .before .before .before .loop .headed) (c .before .before .before .before .before .before .before .before .before .loop .stage) (c .before .before .before .before .before .before .before .before .before .loop .n) (c .before .before .before .before .before .before .before .before .before .loop .at) (c .before .before .before .before .before .before .before .before .find .result) (c .before .before .before .before .before .before .before .before .before .loop .inv) (c .before .before .before .before .before .before .before .before .find .ensures) in
-    let q = c .before .before .before .before .before .before .before .before .before .before .before .before .before .before .pre in
+    let args = c .before .before .before .before .before .before .before .before .before .before .before .before .before .before .args in
+    let loop = c .before .before .before .before .before .before .before .before .before .loop in
+    let find = c .before .before .before .before .before .before .before .before .find in
+    let pre = c .before .before .before .before .before .before .before .before .before .before .before .before .before .before .pre in
+    let p = line-piece (args .text .now) (loop .seg) (loop .made) (loop .tally) (loop .good) (loop .headed) (loop .stage) (loop .n) (loop .at) (find .result) (loop .inv) (find .ensures) in
+    let q = pre in
     omega arith
 
 loop-again-4 : tie.Need-loop-again-4 Inv-loop μ-loop
-loop-again-4 c = reads-past (c .before .before .before .before .before .before .before .before .before .before .before .before .before .before .args .text .now) (c .before .before .before .before .before .before .before .before .before .loop .seg) (c .before .before .before .before .before .before .before .before .before .loop .made) (c .before .before .before .before .before .before .before .before .before .loop .tally) (c .before .before .before .before .before .before .before .before .before .loop .good) (c .before .before .before .before .before .before .before .before .before .loop .headed) (c .before .before .before .before .before .before .before .before .before .loop .stage) (c .before .before .before .before .before .before .before .before .before .loop .n) (c .before .before .before .before .before .before .before .before .before .loop .at) (c .before .before .before .before .before .before .before .before .find .result) (c .before .before .before .before .before .before .before .before .before .loop .inv) (c .before .before .before .before .before .before .before .before .find .ensures) (c .before .before .before .before .before .before .if1 .left) (c .before .before .before .before .before .record-of .result) (c .before .before .before .before .before .record-of .ensures) (sym (c .before .before .before .before .may-follow .ensures) ∙ not-false _ (c .before .before .before .if2 .left)) (c .before .before .kind-of .result) (c .before .stage-after .result) (c .before .before .kind-of .ensures) (c .before .stage-after .ensures) (c .if3 .left)
+loop-again-4 c =
+    let args = c .before .before .before .before .before .before .before .before .before .before .before .before .before .before .args in
+    let loop = c .before .before .before .before .before .before .before .before .before .loop in
+    let find = c .before .before .before .before .before .before .before .before .find in
+    let if1 = c .before .before .before .before .before .before .if1 in
+    let record-of = c .before .before .before .before .before .record-of in
+    let may-follow = c .before .before .before .before .may-follow in
+    let if2 = c .before .before .before .if2 in
+    let kind-of = c .before .before .kind-of in
+    let stage-after = c .before .stage-after in
+    reads-past (args .text .now) (loop .seg) (loop .made) (loop .tally) (loop .good) (loop .headed) (loop .stage) (loop .n) (loop .at) (find .result) (loop .inv) (find .ensures) (if1 .left) (record-of .result) (record-of .ensures) (sym (may-follow .ensures) ∙ not-false _ (if2 .left)) (kind-of .result) (stage-after .result) (kind-of .ensures) (stage-after .ensures) (c .if3 .left)
 
 pub read-lines-spec : {M : Type 1} → statement M
 read-lines-spec =

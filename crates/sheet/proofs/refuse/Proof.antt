@@ -18,7 +18,11 @@ accept-requires c κs = search needs
 returns : tie.Need-returns
 unfolding refused
 returns c =
-    simp (c .before .before .accept .ensures, c .before .before .before .no-draft .ensures, c .before .before .before .before .no-lines .ensures, c .before .before .before .before .before .no-seg .ensures)
+    let accept = c .before .before .accept in
+    let no-draft = c .before .before .before .no-draft in
+    let no-lines = c .before .before .before .before .no-lines in
+    let no-seg = c .before .before .before .before .before .no-seg in
+    simp (accept .ensures, no-draft .ensures, no-lines .ensures, no-seg .ensures)
 
 pub refuse-spec : {M : Type 1} → statement M
 refuse-spec =

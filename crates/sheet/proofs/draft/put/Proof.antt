@@ -21,14 +21,20 @@ new-part-requires : tie.Need-new-part-requires
 new-part-requires c κs = search needs
 
 put-part-requires : tie.Need-put-part-requires
-put-part-requires c κs = subst (Room (c .before .before .before .before .args .t)) (c .before .before .r2 .given .1) (c .before .before .before .before .pre)
+put-part-requires c κs =
+    let args = c .before .before .before .before .args in
+    let r2 = c .before .before .r2 in
+    let pre = c .before .before .before .before .pre in
+    subst (Room (args .t)) (r2 .given .1) pre
 
 enum-told-2 : tie.Need-enum-told-2
 enum-told-2 c = search needs
 
 add-put-seg : tie.Need-add-put-seg
 add-put-seg c =
-    let h = subst (Room (c .before .before .before .args .t)) (c .before .enum-told2 .given .1) (c .before .before .before .pre) in
+    let args = c .before .before .before .args in
+    let pre = c .before .before .before .pre in
+    let h = subst (Room (args .t)) (c .before .enum-told2 .given .1) pre in
     omega arith
 
 put-seg-requires : tie.Need-put-seg-requires
@@ -41,7 +47,11 @@ new-pair-requires : tie.Need-new-pair-requires
 new-pair-requires c κs = search needs
 
 put-pair-requires : tie.Need-put-pair-requires
-put-pair-requires c κs = subst (Room (c .before .before .before .before .args .t)) (c .before .before .r3 .given .1) (c .before .before .before .before .pre)
+put-pair-requires c κs =
+    let args = c .before .before .before .before .args in
+    let r3 = c .before .before .r3 in
+    let pre = c .before .before .before .before .pre in
+    subst (Room (args .t)) (r3 .given .1) pre
 
 enum-known-r-4 : tie.Need-enum-known-r-4
 enum-known-r-4 c = search needs
@@ -85,7 +95,8 @@ returns-2 c =
 returns-3 : tie.Need-returns-3
 unfolding put
 returns-3 c =
-    let t1 = c .before .before .before .r2 .given .1 in
+    let r2 = c .before .before .before .r2 in
+    let t1 = r2 .given .1 in
     simp (t1, c .put-part .ensures, c .before .new-part .ensures)
 
 returns-4 : tie.Need-returns-4
@@ -97,7 +108,8 @@ returns-4 c =
 returns-5 : tie.Need-returns-5
 unfolding put
 returns-5 c =
-    let t1 = c .before .before .before .r3 .given .1 in
+    let r3 = c .before .before .before .r3 in
+    let t1 = r3 .given .1 in
     simp (t1, c .put-pair .ensures, c .before .new-pair .ensures)
 
 returns-6 : tie.Need-returns-6

@@ -19,7 +19,9 @@ put-pair-requires c κs = search needs
 
 returns : tie.Need-returns
 returns c =
-    simp (c .put-pair .ensures, c .before .before .grow .ensures, c .before .before .before .before .before .last .ensures)
+    let grow = c .before .before .grow in
+    let last = c .before .before .before .before .before .last in
+    simp (c .put-pair .ensures, grow .ensures, last .ensures)
 
 pub put-b-spec : {M : Type 1} → statement M
 put-b-spec =

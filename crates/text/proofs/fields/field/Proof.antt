@@ -20,27 +20,43 @@ find-requires c κs = search needs
 
 sub-result : tie.Need-sub-result Inv-loop μ-loop
 sub-result c =
-    let p = piece (c .before .before .before .before .before .args .line .now) 44 (c .before .before .before .loop .at) (c .before .find .result) (c .before .before .before .loop .inv .within) (c .before .find .ensures) in
+    let args = c .before .before .before .before .before .args in
+    let loop = c .before .before .before .loop in
+    let find = c .before .find in
+    let p = piece (args .line .now) 44 (loop .at) (find .result) (loop .inv .within) (find .ensures) in
     omega arith
 
 part-result-start : tie.Need-part-result-start Inv-loop μ-loop
 part-result-start c =
-    let p = piece (c .before .before .before .before .before .args .line .now) 44 (c .before .before .before .loop .at) (c .before .find .result) (c .before .before .before .loop .inv .within) (c .before .find .ensures) in
+    let args = c .before .before .before .before .before .args in
+    let loop = c .before .before .before .loop in
+    let find = c .before .find in
+    let p = piece (args .line .now) 44 (loop .at) (find .result) (loop .inv .within) (find .ensures) in
     omega arith
 
 part-result-end : tie.Need-part-result-end Inv-loop μ-loop
 part-result-end c =
-    let p = piece (c .before .before .before .before .before .args .line .now) 44 (c .before .before .before .loop .at) (c .before .find .result) (c .before .before .before .loop .inv .within) (c .before .find .ensures) in
+    let args = c .before .before .before .before .before .args in
+    let loop = c .before .before .before .loop in
+    let find = c .before .find in
+    let p = piece (args .line .now) 44 (loop .at) (find .result) (loop .inv .within) (find .ensures) in
     omega arith
 
 returns : tie.Need-returns Inv-loop μ-loop
 returns c =
-    let p = piece (c .before .before .before .before .before .before .args .line .now) 44 (c .before .before .before .before .loop .at) (c .before .before .find .result) (c .before .before .before .before .loop .inv .within) (c .before .before .find .ensures) in
-    passes-end (c .before .before .before .before .before .before .args .line .now) (c .before .before .before .before .before .before .args .j) (c .before .before .before .before .loop .at) (c .before .before .before .before .loop .i) (c .before .before .find .result) (c .before .before .before .before .loop .inv) p (c .before .before .before .loop-test .taken) (c .before .if1 .taken)
+    let args = c .before .before .before .before .before .before .args in
+    let loop = c .before .before .before .before .loop in
+    let find = c .before .before .find in
+    let loop-test = c .before .before .before .loop-test in
+    let p = piece (args .line .now) 44 (loop .at) (find .result) (loop .inv .within) (find .ensures) in
+    passes-end (args .line .now) (args .j) (loop .at) (loop .i) (find .result) (loop .inv) p (loop-test .taken) (c .before .if1 .taken)
 
 add-at : tie.Need-add-at Inv-loop μ-loop
 add-at c =
-    let p = piece (c .before .before .before .before .before .args .line .now) 44 (c .before .before .before .loop .at) (c .before .find .result) (c .before .before .before .loop .inv .within) (c .before .find .ensures) in
+    let args = c .before .before .before .before .before .args in
+    let loop = c .before .before .before .loop in
+    let find = c .before .find in
+    let p = piece (args .line .now) 44 (loop .at) (find .result) (loop .inv .within) (find .ensures) in
     omega arith
 
 add-i : tie.Need-add-i Inv-loop μ-loop
@@ -51,31 +67,45 @@ loop-less c = omega arith
 
 loop-again : tie.Need-loop-again Inv-loop μ-loop
 loop-again c =
-    let p = piece (c .before .before .before .before .before .args .line .now) 44 (c .before .before .before .loop .at) (c .before .find .result) (c .before .before .before .loop .inv .within) (c .before .find .ensures) in
-    passes (c .before .before .before .before .before .args .line .now) (c .before .before .before .before .before .args .j) (c .before .before .before .loop .at) (c .before .before .before .loop .i) (c .before .find .result) (c .before .before .before .loop .inv) p (c .before .before .loop-test .taken) (c .if1 .left)
+    let args = c .before .before .before .before .before .args in
+    let loop = c .before .before .before .loop in
+    let find = c .before .find in
+    let loop-test = c .before .before .loop-test in
+    let p = piece (args .line .now) 44 (loop .at) (find .result) (loop .inv .within) (find .ensures) in
+    passes (args .line .now) (args .j) (loop .at) (loop .i) (find .result) (loop .inv) p (loop-test .taken) (c .if1 .left)
 
 find-requires-2 : tie.Need-find-requires-2 Inv-loop μ-loop
 find-requires-2 c κs = search needs
 
 sub-result-2 : tie.Need-sub-result-2 Inv-loop μ-loop
 sub-result-2 c =
-    let p = piece (c .before .before .before .before .args .line .now) 44 (c .before .before .loop .at) (c .find2 .result) (c .before .before .loop .inv .within) (c .find2 .ensures) in
+    let args = c .before .before .before .before .args in
+    let loop = c .before .before .loop in
+    let p = piece (args .line .now) 44 (loop .at) (c .find2 .result) (loop .inv .within) (c .find2 .ensures) in
     omega arith
 
 part-result-start-2 : tie.Need-part-result-start-2 Inv-loop μ-loop
 part-result-start-2 c =
-    let p = piece (c .before .before .before .before .args .line .now) 44 (c .before .before .loop .at) (c .find2 .result) (c .before .before .loop .inv .within) (c .find2 .ensures) in
+    let args = c .before .before .before .before .args in
+    let loop = c .before .before .loop in
+    let p = piece (args .line .now) 44 (loop .at) (c .find2 .result) (loop .inv .within) (c .find2 .ensures) in
     omega arith
 
 part-result-end-2 : tie.Need-part-result-end-2 Inv-loop μ-loop
 part-result-end-2 c =
-    let p = piece (c .before .before .before .before .args .line .now) 44 (c .before .before .loop .at) (c .find2 .result) (c .before .before .loop .inv .within) (c .find2 .ensures) in
+    let args = c .before .before .before .before .args in
+    let loop = c .before .before .loop in
+    let p = piece (args .line .now) 44 (loop .at) (c .find2 .result) (loop .inv .within) (c .find2 .ensures) in
     omega arith
 
 returns-2 : tie.Need-returns-2 Inv-loop μ-loop
 returns-2 c =
-    let p = piece (c .before .before .before .before .before .args .line .now) 44 (c .before .before .before .loop .at) (c .before .find2 .result) (c .before .before .before .loop .inv .within) (c .before .find2 .ensures) in
-    passed (c .before .before .before .before .before .args .line .now) (c .before .before .before .before .before .args .j) (c .before .before .before .loop .at) (c .before .before .before .loop .i) (c .before .find2 .result) (c .before .before .before .loop .inv) p (c .before .before .loop-test .left)
+    let args = c .before .before .before .before .before .args in
+    let loop = c .before .before .before .loop in
+    let find2 = c .before .find2 in
+    let loop-test = c .before .before .loop-test in
+    let p = piece (args .line .now) 44 (loop .at) (find2 .result) (loop .inv .within) (find2 .ensures) in
+    passed (args .line .now) (args .j) (loop .at) (loop .i) (find2 .result) (loop .inv) p (loop-test .left)
 
 pub field-spec : {M : Type 1} → statement M
 field-spec =

@@ -23,17 +23,23 @@ find-requires c κs = search needs
 
 sub-f : tie.Need-sub-f Inv-loop μ-loop
 sub-f c =
-    let p = piece (c .before .before .before .before .before .args .line .now) 44 (c .before .before .loop .at) (c .find .result) (c .before .before .loop .inv .within) (c .find .ensures) in
+    let args = c .before .before .before .before .before .args in
+    let loop = c .before .before .loop in
+    let p = piece (args .line .now) 44 (loop .at) (c .find .result) (loop .inv .within) (c .find .ensures) in
     omega arith
 
 part-f-start : tie.Need-part-f-start Inv-loop μ-loop
 part-f-start c =
-    let p = piece (c .before .before .before .before .before .args .line .now) 44 (c .before .before .loop .at) (c .find .result) (c .before .before .loop .inv .within) (c .find .ensures) in
+    let args = c .before .before .before .before .before .args in
+    let loop = c .before .before .loop in
+    let p = piece (args .line .now) 44 (loop .at) (c .find .result) (loop .inv .within) (c .find .ensures) in
     omega arith
 
 part-f-end : tie.Need-part-f-end Inv-loop μ-loop
 part-f-end c =
-    let p = piece (c .before .before .before .before .before .args .line .now) 44 (c .before .before .loop .at) (c .find .result) (c .before .before .loop .inv .within) (c .find .ensures) in
+    let args = c .before .before .before .before .before .args in
+    let loop = c .before .before .loop in
+    let p = piece (args .line .now) 44 (loop .at) (c .find .result) (loop .inv .within) (c .find .ensures) in
     omega arith
 
 shared-slice-read-is-kind : tie.Need-shared-slice-read-is-kind Inv-loop μ-loop
@@ -44,20 +50,32 @@ is-kind-requires c κs = search needs
 
 returns : tie.Need-returns Inv-loop μ-loop
 returns c =
-    let p = piece (c .before .before .before .before .before .before .before .before .before .args .line .now) 44 (c .before .before .before .before .before .before .loop .at) (c .before .before .before .before .find .result) (c .before .before .before .before .before .before .loop .inv .within) (c .before .before .before .before .find .ensures) in
-    fits-no (c .before .before .before .before .before .before .before .before .before .args .line .now) (c .before .before .before .before .before .before .before .before .before .args .form .now) (c .before .before .before .before .before .before .loop .at) (c .before .before .before .before .before .before .loop .j) (c .before .before .before .before .find .result) (c .before .before .before .before .before .loop-test .taken) (c .before .before .before .before .before .before .loop .inv) p (sym (c .before .is-kind .ensures) ∙ not-true _ (c .if1 .taken))
+    let args = c .before .before .before .before .before .before .before .before .before .args in
+    let loop = c .before .before .before .before .before .before .loop in
+    let find = c .before .before .before .before .find in
+    let loop-test = c .before .before .before .before .before .loop-test in
+    let p = piece (args .line .now) 44 (loop .at) (find .result) (loop .inv .within) (find .ensures) in
+    fits-no (args .line .now) (args .form .now) (loop .at) (loop .j) (find .result) (loop-test .taken) (loop .inv) p (sym (c .before .is-kind .ensures) ∙ not-true _ (c .if1 .taken))
 
 add-j : tie.Need-add-j Inv-loop μ-loop
 add-j c = omega arith
 
 returns-2 : tie.Need-returns-2 Inv-loop μ-loop
 returns-2 c =
-    let p = piece (c .before .before .before .before .before .before .before .before .before .before .args .line .now) 44 (c .before .before .before .before .before .before .before .loop .at) (c .before .before .before .before .before .find .result) (c .before .before .before .before .before .before .before .loop .inv .within) (c .before .before .before .before .before .find .ensures) in
-    fits-last (c .before .before .before .before .before .before .before .before .before .before .args .line .now) (c .before .before .before .before .before .before .before .before .before .before .args .form .now) (c .before .before .before .before .before .before .before .loop .at) (c .before .before .before .before .before .before .before .loop .j) (c .before .before .before .before .before .find .result) (c .before .before .before .before .before .before .loop-test .taken) (c .before .before .before .before .before .before .before .loop .inv) p (sym (c .before .before .is-kind .ensures) ∙ not-false _ (c .before .if1 .left)) (c .if2 .taken)
+    let args = c .before .before .before .before .before .before .before .before .before .before .args in
+    let loop = c .before .before .before .before .before .before .before .loop in
+    let find = c .before .before .before .before .before .find in
+    let loop-test = c .before .before .before .before .before .before .loop-test in
+    let is-kind = c .before .before .is-kind in
+    let p = piece (args .line .now) 44 (loop .at) (find .result) (loop .inv .within) (find .ensures) in
+    fits-last (args .line .now) (args .form .now) (loop .at) (loop .j) (find .result) (loop-test .taken) (loop .inv) p (sym (is-kind .ensures) ∙ not-false _ (c .before .if1 .left)) (c .if2 .taken)
 
 add-at : tie.Need-add-at Inv-loop μ-loop
 add-at c =
-    let p = piece (c .before .before .before .before .before .before .before .before .before .before .args .line .now) 44 (c .before .before .before .before .before .before .before .loop .at) (c .before .before .before .before .before .find .result) (c .before .before .before .before .before .before .before .loop .inv .within) (c .before .before .before .before .before .find .ensures) in
+    let args = c .before .before .before .before .before .before .before .before .before .before .args in
+    let loop = c .before .before .before .before .before .before .before .loop in
+    let find = c .before .before .before .before .before .find in
+    let p = piece (args .line .now) 44 (loop .at) (find .result) (loop .inv .within) (find .ensures) in
     omega arith
 
 loop-less : tie.Need-loop-less Inv-loop μ-loop
@@ -65,11 +83,19 @@ loop-less c = omega arith
 
 loop-again : tie.Need-loop-again Inv-loop μ-loop
 loop-again c =
-    let p = piece (c .before .before .before .before .before .before .before .before .before .before .args .line .now) 44 (c .before .before .before .before .before .before .before .loop .at) (c .before .before .before .before .before .find .result) (c .before .before .before .before .before .before .before .loop .inv .within) (c .before .before .before .before .before .find .ensures) in
-    fits-more (c .before .before .before .before .before .before .before .before .before .before .args .line .now) (c .before .before .before .before .before .before .before .before .before .before .args .form .now) (c .before .before .before .before .before .before .before .loop .at) (c .before .before .before .before .before .before .before .loop .j) (c .before .before .before .before .before .find .result) (c .before .before .before .before .before .before .loop-test .taken) (c .before .before .before .before .before .before .before .loop .inv) p (sym (c .before .before .is-kind .ensures) ∙ not-false _ (c .before .if1 .left)) (c .if2 .left)
+    let args = c .before .before .before .before .before .before .before .before .before .before .args in
+    let loop = c .before .before .before .before .before .before .before .loop in
+    let find = c .before .before .before .before .before .find in
+    let loop-test = c .before .before .before .before .before .before .loop-test in
+    let is-kind = c .before .before .is-kind in
+    let p = piece (args .line .now) 44 (loop .at) (find .result) (loop .inv .within) (find .ensures) in
+    fits-more (args .line .now) (args .form .now) (loop .at) (loop .j) (find .result) (loop-test .taken) (loop .inv) p (sym (is-kind .ensures) ∙ not-false _ (c .before .if1 .left)) (c .if2 .left)
 
 returns-3 : tie.Need-returns-3 Inv-loop μ-loop
-returns-3 c = fits-done (c .before .before .before .before .args .line .now) (c .before .before .before .before .args .form .now) (c .before .loop .at) (c .before .loop .j) (c .loop-test .left) (c .before .loop .inv)
+returns-3 c =
+    let args = c .before .before .before .before .args in
+    let loop = c .before .loop in
+    fits-done (args .line .now) (args .form .now) (loop .at) (loop .j) (c .loop-test .left) (loop .inv)
 
 pub fits-spec : {M : Type 1} → statement M
 fits-spec =

@@ -18,10 +18,14 @@ well-written-requires : tie.Need-well-written-requires Inv-loop μ-loop
 well-written-requires c κs = search needs
 
 returns : tie.Need-returns Inv-loop μ-loop
-returns c = not-written (c .before .before .before .args .f .now) (sym (c .before .well-written .ensures) ∙ not-true _ (c .if1 .taken))
+returns c =
+    let args = c .before .before .before .args in
+    not-written (args .f .now) (sym (c .before .well-written .ensures) ∙ not-true _ (c .if1 .taken))
 
 loop-holds : tie.Need-loop-holds Inv-loop μ-loop
-loop-holds c = digits-start (c .before .before .before .args .f .now) (sym (c .before .well-written .ensures) ∙ not-false _ (c .if1 .left))
+loop-holds c =
+    let args = c .before .before .before .args in
+    digits-start (args .f .now) (sym (c .before .well-written .ensures) ∙ not-false _ (c .if1 .left))
 
 shared-slice-read-b : tie.Need-shared-slice-read-b Inv-loop μ-loop
 shared-slice-read-b c = omega arith
@@ -30,22 +34,39 @@ is-digit-requires : tie.Need-is-digit-requires Inv-loop μ-loop
 is-digit-requires c κs = search needs
 
 returns-2 : tie.Need-returns-2 Inv-loop μ-loop
-returns-2 c = not-digit (c .before .before .before .before .before .before .before .before .args .f .now) (c .before .before .before .before .loop .i) (c .before .before .before .before .loop .v) (c .before .before .before .loop-test .taken) (c .before .before .before .before .loop .inv) (sym (c .before .is-digit .ensures) ∙ not-true _ (c .if2 .taken))
+returns-2 c =
+    let args = c .before .before .before .before .before .before .before .before .args in
+    let loop = c .before .before .before .before .loop in
+    let loop-test = c .before .before .before .loop-test in
+    not-digit (args .f .now) (loop .i) (loop .v) (loop-test .taken) (loop .inv) (sym (c .before .is-digit .ensures) ∙ not-true _ (c .if2 .taken))
 
 mul-v : tie.Need-mul-v Inv-loop μ-loop
 mul-v c = omega arith
 
 cast-v : tie.Need-cast-v Inv-loop μ-loop
-cast-v c = omega (arith, digit-range (getD (c .before .before .before .before .before .before .before .before .args .f .now) (c .before .before .before .before .loop .i) 0) (sym (c .before .is-digit .ensures) ∙ not-false _ (c .if2 .left)))
+cast-v c =
+    let args = c .before .before .before .before .before .before .before .before .args in
+    let loop = c .before .before .before .before .loop in
+    omega (arith, digit-range (getD (args .f .now) (loop .i) 0) (sym (c .before .is-digit .ensures) ∙ not-false _ (c .if2 .left)))
 
 sub-v : tie.Need-sub-v Inv-loop μ-loop
-sub-v c = omega (arith, digit-range (getD (c .before .before .before .before .before .before .before .before .args .f .now) (c .before .before .before .before .loop .i) 0) (sym (c .before .is-digit .ensures) ∙ not-false _ (c .if2 .left)))
+sub-v c =
+    let args = c .before .before .before .before .before .before .before .before .args in
+    let loop = c .before .before .before .before .loop in
+    omega (arith, digit-range (getD (args .f .now) (loop .i) 0) (sym (c .before .is-digit .ensures) ∙ not-false _ (c .if2 .left)))
 
 add-v : tie.Need-add-v Inv-loop μ-loop
-add-v c = omega (arith, digit-range (getD (c .before .before .before .before .before .before .before .before .args .f .now) (c .before .before .before .before .loop .i) 0) (sym (c .before .is-digit .ensures) ∙ not-false _ (c .if2 .left)))
+add-v c =
+    let args = c .before .before .before .before .before .before .before .before .args in
+    let loop = c .before .before .before .before .loop in
+    omega (arith, digit-range (getD (args .f .now) (loop .i) 0) (sym (c .before .is-digit .ensures) ∙ not-false _ (c .if2 .left)))
 
 returns-3 : tie.Need-returns-3 Inv-loop μ-loop
-returns-3 c = too-large (c .before .before .before .before .before .before .before .before .before .args .f .now) (c .before .before .before .before .before .loop .i) (c .before .before .before .before .before .loop .v) (c .before .before .before .before .loop-test .taken) (c .before .before .before .before .before .loop .inv) (c .if3 .taken)
+returns-3 c =
+    let args = c .before .before .before .before .before .before .before .before .before .args in
+    let loop = c .before .before .before .before .before .loop in
+    let loop-test = c .before .before .before .before .loop-test in
+    too-large (args .f .now) (loop .i) (loop .v) (loop-test .taken) (loop .inv) (c .if3 .taken)
 
 add-i : tie.Need-add-i Inv-loop μ-loop
 add-i c = omega arith
@@ -54,10 +75,18 @@ loop-less : tie.Need-loop-less Inv-loop μ-loop
 loop-less c = omega arith
 
 loop-again : tie.Need-loop-again Inv-loop μ-loop
-loop-again c = digits-more (c .before .before .before .before .before .before .before .before .before .args .f .now) (c .before .before .before .before .before .loop .i) (c .before .before .before .before .before .loop .v) (c .before .before .before .before .loop-test .taken) (c .before .before .before .before .before .loop .inv) (sym (c .before .before .is-digit .ensures) ∙ not-false _ (c .before .if2 .left)) (c .if3 .left)
+loop-again c =
+    let args = c .before .before .before .before .before .before .before .before .before .args in
+    let loop = c .before .before .before .before .before .loop in
+    let loop-test = c .before .before .before .before .loop-test in
+    let is-digit = c .before .before .is-digit in
+    digits-more (args .f .now) (loop .i) (loop .v) (loop-test .taken) (loop .inv) (sym (is-digit .ensures) ∙ not-false _ (c .before .if2 .left)) (c .if3 .left)
 
 returns-4 : tie.Need-returns-4 Inv-loop μ-loop
-returns-4 c = digits-end (c .before .before .before .before .before .args .f .now) (c .before .loop .i) (c .before .loop .v) (c .loop-test .left) (c .before .loop .inv)
+returns-4 c =
+    let args = c .before .before .before .before .before .args in
+    let loop = c .before .loop in
+    digits-end (args .f .now) (loop .i) (loop .v) (c .loop-test .left) (loop .inv)
 
 pub number-of-spec : {M : Type 1} → statement M
 number-of-spec =

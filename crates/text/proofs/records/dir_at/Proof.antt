@@ -19,7 +19,9 @@ dir-or-requires c κs = search needs
 
 returns : tie.Need-returns
 returns c =
-    simp (c .dir-or .ensures, c .before .new .ensures, c .before .before .real-at2 .ensures, c .before .before .before .real-at .ensures)
+    let real-at2 = c .before .before .real-at2 in
+    let real-at = c .before .before .before .real-at in
+    simp (c .dir-or .ensures, c .before .new .ensures, real-at2 .ensures, real-at .ensures)
 
 pub dir-at-spec : {M : Type 1} → statement M
 dir-at-spec =

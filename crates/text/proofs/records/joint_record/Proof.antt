@@ -1,5 +1,5 @@
 use mathlib.Core.Path.{sym, _∙_}
-use Rattle.text.proofs.Forms.{fit-yes, fit-no, fit-none}
+use Rattle.text.proofs.Forms.{fit-yes, fit-no}
 use borrow.Author.Needs.{needs}
 use Rattle.text.proofs.records.joint_record.Statement.{statement}
 use Rattle.text.proofs.records.joint_record.Tie as tie
@@ -32,7 +32,13 @@ number-at-requires-3 : tie.Need-number-at-requires-3
 number-at-requires-3 c κs = search needs
 
 returns-2 : tie.Need-returns-2
-returns-2 c = simp (c .number-at3 .ensures, c .before .point-at .ensures, c .before .before .number-at2 .ensures) (sym (fit-no _ _ _ (sym (c .before .before .before .before .before .before .before .fits2 .ensures) ∙ c .before .before .before .before .before .before .if1 .left) ∙ fit-yes _ _ _ (sym (c .before .before .before .before .fits3 .ensures) ∙ c .before .before .before .if2 .taken)))
+returns-2 c =
+    let number-at2 = c .before .before .number-at2 in
+    let fits2 = c .before .before .before .before .before .before .before .fits2 in
+    let if1 = c .before .before .before .before .before .before .if1 in
+    let fits3 = c .before .before .before .before .fits3 in
+    let if2 = c .before .before .before .if2 in
+    simp (c .number-at3 .ensures, c .before .point-at .ensures, number-at2 .ensures) (sym (fit-no _ _ _ (sym (fits2 .ensures) ∙ if1 .left) ∙ fit-yes _ _ _ (sym (fits3 .ensures) ∙ if2 .taken)))
 
 slice-aggregate-fits-3 : tie.Need-slice-aggregate-fits-3
 slice-aggregate-fits-3 c = search needs
@@ -53,13 +59,28 @@ number-at-requires-5 : tie.Need-number-at-requires-5
 number-at-requires-5 c κs = search needs
 
 returns-3 : tie.Need-returns-3
-returns-3 c = simp (c .number-at5 .ensures, c .before .dir-at .ensures, c .before .before .point-at2 .ensures, c .before .before .before .number-at4 .ensures) (sym (fit-no _ _ _ (sym (c .before .before .before .before .before .before .before .before .before .before .before .fits2 .ensures) ∙ c .before .before .before .before .before .before .before .before .before .before .if1 .left) ∙ fit-no _ _ _ (sym (c .before .before .before .before .before .before .before .before .fits3 .ensures) ∙ c .before .before .before .before .before .before .before .if2 .left) ∙ fit-yes _ _ _ (sym (c .before .before .before .before .before .fits4 .ensures) ∙ c .before .before .before .before .if3 .taken)))
+returns-3 c =
+    let point-at2 = c .before .before .point-at2 in
+    let number-at4 = c .before .before .before .number-at4 in
+    let fits2 = c .before .before .before .before .before .before .before .before .before .before .before .fits2 in
+    let if1 = c .before .before .before .before .before .before .before .before .before .before .if1 in
+    let fits3 = c .before .before .before .before .before .before .before .before .fits3 in
+    let if2 = c .before .before .before .before .before .before .before .if2 in
+    let fits4 = c .before .before .before .before .before .fits4 in
+    let if3 = c .before .before .before .before .if3 in
+    simp (c .number-at5 .ensures, c .before .dir-at .ensures, point-at2 .ensures, number-at4 .ensures) (sym (fit-no _ _ _ (sym (fits2 .ensures) ∙ if1 .left) ∙ fit-no _ _ _ (sym (fits3 .ensures) ∙ if2 .left) ∙ fit-yes _ _ _ (sym (fits4 .ensures) ∙ if3 .taken)))
 
 part-record-requires : tie.Need-part-record-requires
 part-record-requires c κs = search needs
 
 returns-4 : tie.Need-returns-4
-returns-4 c = simp (c .part-record .ensures) (sym (fit-no _ _ _ (sym (c .before .before .before .before .before .before .before .before .fits2 .ensures) ∙ c .before .before .before .before .before .before .before .if1 .left) ∙ fit-no _ _ _ (sym (c .before .before .before .before .before .fits3 .ensures) ∙ c .before .before .before .before .if2 .left) ∙ fit-no _ _ _ (sym (c .before .before .fits4 .ensures) ∙ c .before .if3 .left)))
+returns-4 c =
+    let fits2 = c .before .before .before .before .before .before .before .before .fits2 in
+    let if1 = c .before .before .before .before .before .before .before .if1 in
+    let fits3 = c .before .before .before .before .before .fits3 in
+    let if2 = c .before .before .before .before .if2 in
+    let fits4 = c .before .before .fits4 in
+    simp (c .part-record .ensures) (sym (fit-no _ _ _ (sym (fits2 .ensures) ∙ if1 .left) ∙ fit-no _ _ _ (sym (fits3 .ensures) ∙ if2 .left) ∙ fit-no _ _ _ (sym (fits4 .ensures) ∙ c .before .if3 .left)))
 
 pub joint-record-spec : {M : Type 1} → statement M
 joint-record-spec =

@@ -1,5 +1,5 @@
 use mathlib.Core.Path.{sym, _∙_}
-use Rattle.text.proofs.Forms.{fit-yes, fit-no, fit-none}
+use Rattle.text.proofs.Forms.{fit-yes, fit-no}
 use borrow.Author.Needs.{needs}
 use Rattle.text.proofs.records.outline_record.Statement.{statement}
 use Rattle.text.proofs.records.outline_record.Tie as tie
@@ -17,7 +17,10 @@ point-at-requires-2 : tie.Need-point-at-requires-2
 point-at-requires-2 c κs = search needs
 
 returns : tie.Need-returns
-returns c = simp (c .point-at2 .ensures, c .before .point-at .ensures) (sym (fit-yes _ _ _ (sym (c .before .before .before .fits2 .ensures) ∙ c .before .before .if1 .taken)))
+returns c =
+    let fits2 = c .before .before .before .fits2 in
+    let if1 = c .before .before .if1 in
+    simp (c .point-at2 .ensures, c .before .point-at .ensures) (sym (fit-yes _ _ _ (sym (fits2 .ensures) ∙ if1 .taken)))
 
 slice-aggregate-fits-2 : tie.Need-slice-aggregate-fits-2
 slice-aggregate-fits-2 c = search needs
@@ -38,13 +41,24 @@ dir-at-requires-2 : tie.Need-dir-at-requires-2
 dir-at-requires-2 c κs = search needs
 
 returns-2 : tie.Need-returns-2
-returns-2 c = simp (c .dir-at2 .ensures, c .before .dir-at .ensures, c .before .before .real-at .ensures, c .before .before .before .point-at3 .ensures) (sym (fit-no _ _ _ (sym (c .before .before .before .before .before .before .before .before .fits2 .ensures) ∙ c .before .before .before .before .before .before .before .if1 .left) ∙ fit-yes _ _ _ (sym (c .before .before .before .before .before .fits3 .ensures) ∙ c .before .before .before .before .if2 .taken)))
+returns-2 c =
+    let real-at = c .before .before .real-at in
+    let point-at3 = c .before .before .before .point-at3 in
+    let fits2 = c .before .before .before .before .before .before .before .before .fits2 in
+    let if1 = c .before .before .before .before .before .before .before .if1 in
+    let fits3 = c .before .before .before .before .before .fits3 in
+    let if2 = c .before .before .before .before .if2 in
+    simp (c .dir-at2 .ensures, c .before .dir-at .ensures, real-at .ensures, point-at3 .ensures) (sym (fit-no _ _ _ (sym (fits2 .ensures) ∙ if1 .left) ∙ fit-yes _ _ _ (sym (fits3 .ensures) ∙ if2 .taken)))
 
 pair-record-requires : tie.Need-pair-record-requires
 pair-record-requires c κs = search needs
 
 returns-3 : tie.Need-returns-3
-returns-3 c = simp (c .pair-record .ensures) (sym (fit-no _ _ _ (sym (c .before .before .before .before .before .fits2 .ensures) ∙ c .before .before .before .before .if1 .left) ∙ fit-no _ _ _ (sym (c .before .before .fits3 .ensures) ∙ c .before .if2 .left)))
+returns-3 c =
+    let fits2 = c .before .before .before .before .before .fits2 in
+    let if1 = c .before .before .before .before .if1 in
+    let fits3 = c .before .before .fits3 in
+    simp (c .pair-record .ensures) (sym (fit-no _ _ _ (sym (fits2 .ensures) ∙ if1 .left) ∙ fit-no _ _ _ (sym (fits3 .ensures) ∙ c .before .if2 .left)))
 
 pub outline-record-spec : {M : Type 1} → statement M
 outline-record-spec =

@@ -1,5 +1,5 @@
 use mathlib.Core.Path.{sym, _∙_}
-use Rattle.text.proofs.Forms.{fit-yes, fit-no, fit-none}
+use Rattle.text.proofs.Forms.{fit-yes, fit-no}
 use borrow.Author.Needs.{needs}
 use Rattle.text.proofs.records.part_record.Statement.{statement}
 use Rattle.text.proofs.records.part_record.Tie as tie
@@ -26,7 +26,13 @@ real-at-requires-2 : tie.Need-real-at-requires-2
 real-at-requires-2 c κs = search needs
 
 returns : tie.Need-returns
-returns c = simp (c .real-at2 .ensures, c .before .real-at .ensures, c .before .before .role-of .ensures, c .before .before .before .letter-at .ensures, c .before .before .before .before .number-at .ensures) (sym (fit-yes _ _ _ (sym (c .before .before .before .before .before .before .fits2 .ensures) ∙ c .before .before .before .before .before .if1 .taken)))
+returns c =
+    let role-of = c .before .before .role-of in
+    let letter-at = c .before .before .before .letter-at in
+    let number-at = c .before .before .before .before .number-at in
+    let fits2 = c .before .before .before .before .before .before .fits2 in
+    let if1 = c .before .before .before .before .before .if1 in
+    simp (c .real-at2 .ensures, c .before .real-at .ensures, role-of .ensures, letter-at .ensures, number-at .ensures) (sym (fit-yes _ _ _ (sym (fits2 .ensures) ∙ if1 .taken)))
 
 slice-aggregate-fits-2 : tie.Need-slice-aggregate-fits-2
 slice-aggregate-fits-2 c = search needs
@@ -47,7 +53,14 @@ real-at-requires-3 : tie.Need-real-at-requires-3
 real-at-requires-3 c κs = search needs
 
 returns-2 : tie.Need-returns-2
-returns-2 c = simp (c .real-at3 .ensures, c .before .role-of2 .ensures, c .before .before .letter-at2 .ensures, c .before .before .before .number-at2 .ensures) (sym (fit-no _ _ _ (sym (c .before .before .before .before .before .before .before .before .fits2 .ensures) ∙ c .before .before .before .before .before .before .before .if1 .left) ∙ fit-yes _ _ _ (sym (c .before .before .before .before .before .fits3 .ensures) ∙ c .before .before .before .before .if2 .taken)))
+returns-2 c =
+    let letter-at2 = c .before .before .letter-at2 in
+    let number-at2 = c .before .before .before .number-at2 in
+    let fits2 = c .before .before .before .before .before .before .before .before .fits2 in
+    let if1 = c .before .before .before .before .before .before .before .if1 in
+    let fits3 = c .before .before .before .before .before .fits3 in
+    let if2 = c .before .before .before .before .if2 in
+    simp (c .real-at3 .ensures, c .before .role-of2 .ensures, letter-at2 .ensures, number-at2 .ensures) (sym (fit-no _ _ _ (sym (fits2 .ensures) ∙ if1 .left) ∙ fit-yes _ _ _ (sym (fits3 .ensures) ∙ if2 .taken)))
 
 slice-aggregate-fits-3 : tie.Need-slice-aggregate-fits-3
 slice-aggregate-fits-3 c = search needs
@@ -68,7 +81,16 @@ real-at-requires-4 : tie.Need-real-at-requires-4
 real-at-requires-4 c κs = search needs
 
 returns-3 : tie.Need-returns-3
-returns-3 c = simp (c .real-at4 .ensures, c .before .role-of3 .ensures, c .before .before .letter-at3 .ensures, c .before .before .before .number-at3 .ensures) (sym (fit-no _ _ _ (sym (c .before .before .before .before .before .before .before .before .before .before .before .fits2 .ensures) ∙ c .before .before .before .before .before .before .before .before .before .before .if1 .left) ∙ fit-no _ _ _ (sym (c .before .before .before .before .before .before .before .before .fits3 .ensures) ∙ c .before .before .before .before .before .before .before .if2 .left) ∙ fit-yes _ _ _ (sym (c .before .before .before .before .before .fits4 .ensures) ∙ c .before .before .before .before .if3 .taken)))
+returns-3 c =
+    let letter-at3 = c .before .before .letter-at3 in
+    let number-at3 = c .before .before .before .number-at3 in
+    let fits2 = c .before .before .before .before .before .before .before .before .before .before .before .fits2 in
+    let if1 = c .before .before .before .before .before .before .before .before .before .before .if1 in
+    let fits3 = c .before .before .before .before .before .before .before .before .fits3 in
+    let if2 = c .before .before .before .before .before .before .before .if2 in
+    let fits4 = c .before .before .before .before .before .fits4 in
+    let if3 = c .before .before .before .before .if3 in
+    simp (c .real-at4 .ensures, c .before .role-of3 .ensures, letter-at3 .ensures, number-at3 .ensures) (sym (fit-no _ _ _ (sym (fits2 .ensures) ∙ if1 .left) ∙ fit-no _ _ _ (sym (fits3 .ensures) ∙ if2 .left) ∙ fit-yes _ _ _ (sym (fits4 .ensures) ∙ if3 .taken)))
 
 slice-aggregate-fits-4 : tie.Need-slice-aggregate-fits-4
 slice-aggregate-fits-4 c = search needs
@@ -89,13 +111,32 @@ real-at-requires-5 : tie.Need-real-at-requires-5
 real-at-requires-5 c κs = search needs
 
 returns-4 : tie.Need-returns-4
-returns-4 c = simp (c .real-at5 .ensures, c .before .role-of4 .ensures, c .before .before .letter-at4 .ensures, c .before .before .before .number-at4 .ensures) (sym (fit-no _ _ _ (sym (c .before .before .before .before .before .before .before .before .before .before .before .before .before .before .fits2 .ensures) ∙ c .before .before .before .before .before .before .before .before .before .before .before .before .before .if1 .left) ∙ fit-no _ _ _ (sym (c .before .before .before .before .before .before .before .before .before .before .before .fits3 .ensures) ∙ c .before .before .before .before .before .before .before .before .before .before .if2 .left) ∙ fit-no _ _ _ (sym (c .before .before .before .before .before .before .before .before .fits4 .ensures) ∙ c .before .before .before .before .before .before .before .if3 .left) ∙ fit-yes _ _ _ (sym (c .before .before .before .before .before .fits5 .ensures) ∙ c .before .before .before .before .if4 .taken)))
+returns-4 c =
+    let letter-at4 = c .before .before .letter-at4 in
+    let number-at4 = c .before .before .before .number-at4 in
+    let fits2 = c .before .before .before .before .before .before .before .before .before .before .before .before .before .before .fits2 in
+    let if1 = c .before .before .before .before .before .before .before .before .before .before .before .before .before .if1 in
+    let fits3 = c .before .before .before .before .before .before .before .before .before .before .before .fits3 in
+    let if2 = c .before .before .before .before .before .before .before .before .before .before .if2 in
+    let fits4 = c .before .before .before .before .before .before .before .before .fits4 in
+    let if3 = c .before .before .before .before .before .before .before .if3 in
+    let fits5 = c .before .before .before .before .before .fits5 in
+    let if4 = c .before .before .before .before .if4 in
+    simp (c .real-at5 .ensures, c .before .role-of4 .ensures, letter-at4 .ensures, number-at4 .ensures) (sym (fit-no _ _ _ (sym (fits2 .ensures) ∙ if1 .left) ∙ fit-no _ _ _ (sym (fits3 .ensures) ∙ if2 .left) ∙ fit-no _ _ _ (sym (fits4 .ensures) ∙ if3 .left) ∙ fit-yes _ _ _ (sym (fits5 .ensures) ∙ if4 .taken)))
 
 outline-record-requires : tie.Need-outline-record-requires
 outline-record-requires c κs = search needs
 
 returns-5 : tie.Need-returns-5
-returns-5 c = simp (c .outline-record .ensures) (sym (fit-no _ _ _ (sym (c .before .before .before .before .before .before .before .before .before .before .before .fits2 .ensures) ∙ c .before .before .before .before .before .before .before .before .before .before .if1 .left) ∙ fit-no _ _ _ (sym (c .before .before .before .before .before .before .before .before .fits3 .ensures) ∙ c .before .before .before .before .before .before .before .if2 .left) ∙ fit-no _ _ _ (sym (c .before .before .before .before .before .fits4 .ensures) ∙ c .before .before .before .before .if3 .left) ∙ fit-no _ _ _ (sym (c .before .before .fits5 .ensures) ∙ c .before .if4 .left)))
+returns-5 c =
+    let fits2 = c .before .before .before .before .before .before .before .before .before .before .before .fits2 in
+    let if1 = c .before .before .before .before .before .before .before .before .before .before .if1 in
+    let fits3 = c .before .before .before .before .before .before .before .before .fits3 in
+    let if2 = c .before .before .before .before .before .before .before .if2 in
+    let fits4 = c .before .before .before .before .before .fits4 in
+    let if3 = c .before .before .before .before .if3 in
+    let fits5 = c .before .before .fits5 in
+    simp (c .outline-record .ensures) (sym (fit-no _ _ _ (sym (fits2 .ensures) ∙ if1 .left) ∙ fit-no _ _ _ (sym (fits3 .ensures) ∙ if2 .left) ∙ fit-no _ _ _ (sym (fits4 .ensures) ∙ if3 .left) ∙ fit-no _ _ _ (sym (fits5 .ensures) ∙ c .before .if4 .left)))
 
 pub part-record-spec : {M : Type 1} → statement M
 part-record-spec =

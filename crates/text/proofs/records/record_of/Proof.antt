@@ -1,5 +1,5 @@
 use mathlib.Core.Path.{sym, _∙_}
-use Rattle.text.proofs.Forms.{fit-yes, fit-no, fit-none}
+use Rattle.text.proofs.Forms.{fit-yes, fit-no}
 use borrow.Author.Needs.{needs}
 use Rattle.text.proofs.records.record_of.Statement.{statement}
 use Rattle.text.proofs.records.record_of.Tie as tie
