@@ -128,26 +128,27 @@ line-then headed stage n l c t =
     (λ (ps : List (List ℕ)). lines headed stage n (l ∷ ps) ≡ cond (follows stage (lineOf l)) (then (lineOf l) (lines (headed || eqb (kindOf (lineOf l)) M) (placeOf (lineOf l) .next) (n + 1) ps)) (stuck n))
     (λ p ps. refl) c t
 
-module _ (text : List ℕ) (seg : List OutlineSeg) (made : Draft) (tally : Tally) (good headed : Bool) (stage n at e : ℕ)
+module _ {text : List ℕ} {seg : List OutlineSeg} {made : Draft} {tally : Tally} {good headed : Bool} {stage n at e : ℕ}
     (w : Reading text seg made tally good headed stage n at) (q : e ≡ pieceEnd 10 text at) where
   pub line-piece : Piece text 10 at e
   line-piece = piece text 10 at e (w .inside) q
 
   -- the last piece
-  pub at-end : e ≡ length text → ended (mayEnd (length (take (e - at) (drop at text))) headed stage) n good (accepted tally made seg) ≡ linesOf text
+  pub at-end : e ≡ length text → {b : Bool} → b ≡ mayEnd (length (take (e - at) (drop at text))) headed stage → ended b n good (accepted tally made seg) ≡ linesOf text
   unfolding lines allWithin drafted edges foldOf
-  at-end h =
-      go (mayEnd (length (take (e - at) (drop at text))) headed stage) good
+  at-end h {b} y =
+      go b good
+      ∙ ap (λ (x : Bool). judgedFrom good tally made seg (cond x (whole []) (stuck n))) y
       ∙ sym (ap (λ (ps : List (List ℕ)). judgedFrom good tally made seg (lines headed stage n ps)) (line-piece .last (omega arith)))
       ∙ w .same
     where
-      go : (b g : Bool) → ended b n g (accepted tally made seg) ≡ judgedFrom g tally made seg (cond b (whole []) (stuck n))
+      go : (x g : Bool) → ended x n g (accepted tally made seg) ≡ judgedFrom g tally made seg (cond x (whole []) (stuck n))
       go true true = refl
       go true false = refl
       go false g = refl
 
   -- a line
-  module _ (h : e ≡ length text → ⊥) (r : Record) (f : r ≡ lineOf (take (e - at) (drop at text))) where
+  module _ (h : e ≡ length text → ⊥) {r : Record} (f : r ≡ lineOf (take (e - at) (drop at text))) where
     abbrev rest : Lines
     rest = lines (headed || eqb (kindOf r) M) (placeOf r .next) (n + 1) (split 10 (drop (e + 1) text))
 
@@ -163,7 +164,7 @@ module _ (text : List ℕ) (seg : List OutlineSeg) (made : Draft) (tally : Tally
     out-of-order g = sym (ap (judgedFrom good tally made seg) (cond-no _ (stuck n) g)) ∙ line-judged
 
     -- the next line, from what this one leaves
-    module _ (g : follows stage r ≡ true) (k s : ℕ) (ek : k ≡ kindOf r) (es : s ≡ placeOf r .next) where
+    module _ (g : follows stage r ≡ true) {k s : ℕ} (ek : k ≡ kindOf r) (es : s ≡ placeOf r .next) where
       next : (seg' : List OutlineSeg) (made' : Draft) (tally' : Tally) (good' : Bool) → (good' ≡ true → Bounds tally')
           → ((v : Lines) → judgedFrom good tally made seg (then r v) ≡ judgedFrom good' tally' made' seg' v)
           → Reading text seg' made' tally' good' (headed || eqb k M) s (n + 1) (e + 1)
@@ -180,14 +181,14 @@ module _ (text : List ℕ) (seg : List OutlineSeg) (made : Draft) (tally : Tally
           ∙ passed tally tally made made seg seg r v
           ∙ ap (λ (b : Bool). judgedFrom b tally made seg v) (sym o))
 
-      module _ (o : good ≡ true) (tally' : Tally) (good' : Bool) (et : tally' ≡ counted tally r) (eg : good' ≡ withinLimits tally') where
+      module _ (o : good ≡ true) {tally' : Tally} {good' : Bool} (et : tally' ≡ counted tally r) (eg : good' ≡ withinLimits tally') where
         pub reads-over : good' ≡ false → Reading text seg made tally' good' (headed || eqb k M) s (n + 1) (e + 1)
         reads-over o' = next seg made tally' good' (λ y. absurd (false≢true (sym o' ∙ y))) (λ v.
             ap (λ (b : Bool). judgedFrom b tally made seg (then r v)) o
             ∙ passes tally made seg r tally' made seg (ap withinLimits (sym et) ∙ sym eg ∙ o') v
             ∙ ap (λ (b : Bool). judgedFrom b tally' made seg v) (sym o'))
 
-        module _ (o' : good' ≡ true) (made' : Draft) (ed : made' ≡ put tally made r) where
+        module _ (o' : good' ≡ true) {made' : Draft} (ed : made' ≡ put tally made r) where
           goes : (seg' : List OutlineSeg) → ((rs : List Record) → sets seg' (counted tally r .segs) (edges rs) ≡ sets seg (tally .segs) (edges (r ∷ rs)))
               → Reading text seg' made' tally' good' (headed || eqb k M) s (n + 1) (e + 1)
           goes seg' p = next seg' made' tally' good' (λ _. bounds tally' (sym eg ∙ o')) (λ v.
@@ -200,5 +201,5 @@ module _ (text : List ℕ) (seg : List OutlineSeg) (made : Draft) (tally : Tally
           pub reads-on : (k ≡ L → ⊥) → Reading text seg made' tally' good' (headed || eqb k M) s (n + 1) (e + 1)
           reads-on z = goes seg (put-none tally seg r (λ y. z (ek ∙ y)))
 
-          pub reads-edge : k ≡ L → (x : OutlineSeg) → x ≡ edgeOf r → Reading text (set seg (tally .segs) x) made' tally' good' (headed || eqb k M) s (n + 1) (e + 1)
-          reads-edge z x ex = rw ex (goes (set seg (tally .segs) (edgeOf r)) (put-edge tally seg r (sym ek ∙ z)))
+          pub reads-edge : k ≡ L → {x : OutlineSeg} → x ≡ edgeOf r → Reading text (set seg (tally .segs) x) made' tally' good' (headed || eqb k M) s (n + 1) (e + 1)
+          reads-edge z ex = rw ex (goes (set seg (tally .segs) (edgeOf r)) (put-edge tally seg r (sym ek ∙ z)))

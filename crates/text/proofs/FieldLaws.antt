@@ -59,7 +59,7 @@ module _ (f : List ℕ) where
   unfolding decimal
   digits-start e = record { far = omega arith; good = e; small = omega arith; all = refl; value = refl }
 
-module _ (f : List ℕ) (i v : ℕ) (h : i < length f) (d : Digits f i v) where
+module _ {f : List ℕ} {i v : ℕ} (h : i < length f) (d : Digits f i v) where
   pub not-digit : isDigit (getD f i 0) ≡ false → NoNumber ≡ numberOf f
   unfolding numberOf
   not-digit e = sym (cond-no _ _ (no-and (written f) (and-no _ (sym (d .all) ∙ all-no isDigit f i h e))))
@@ -76,9 +76,9 @@ module _ (f : List ℕ) (i v : ℕ) (h : i < length f) (d : Digits f i v) where
   pub digits-more : isDigit (getD f i 0) ≡ true → tens v (getD f i 0) ≤ 65535 → Digits f (i + 1) (tens v (getD f i 0))
   digits-more e l = record { far = omega arith; good = d .good; small = l; all = sym (all-yes isDigit f i h e) ∙ d .all; value = grown }
 
-pub digits-end : (f : List ℕ) (i v : ℕ) → length f ≤ i → Digits f i v → Number v ≡ numberOf f
+pub digits-end : {f : List ℕ} {i v : ℕ} → length f ≤ i → Digits f i v → Number v ≡ numberOf f
 unfolding numberOf
-digits-end f i v h d =
+digits-end {f} {i} {v} h d =
     let a : allOf isDigit f ≡ true = sym (d .all) ∙ all-done isDigit f i h in
     let e : v ≡ decimal f = sym (fold-done tens v f i h) ∙ d .value in
     let s : leb (decimal f) 65535 ≡ true = ap (λ (n : ℕ). leb n 65535) (sym e) ∙ le-leb v 65535 (d .small) in
@@ -114,7 +114,7 @@ pub hexes-start : (f : List ℕ) → length f ≡ 16 → Hexes f 0 0
 unfolding pattern
 hexes-start f e = record { far = omega arith; long = e; small = omega arith; all = refl; value = refl }
 
-module _ (f : List ℕ) (k v : ℕ) (h : k < length f) (d : Hexes f k v) where
+module _ {f : List ℕ} {k v : ℕ} (h : k < length f) (d : Hexes f k v) where
   pub not-hex : isHex (getD f k 0) ≡ false → NoValue ≡ floatOf f
   unfolding floatOf
   not-hex e = sym (cond-no _ _ (no-and (eqb (length f) 16) (sym (d .all) ∙ all-no isHex f k h e)))
@@ -131,9 +131,9 @@ module _ (f : List ℕ) (k v : ℕ) (h : k < length f) (d : Hexes f k v) where
   pub hexes-room : v < 2 ^ 60
   hexes-room = hex-room v k (d .small) (omega (arith, d .long))
 
-pub hexes-end : (f : List ℕ) (k v : ℕ) (x : Float) → length f ≤ k → Hexes f k v → x ≡ ofBits binary64 v → Value x ≡ floatOf f
+pub hexes-end : {f : List ℕ} {k v : ℕ} {x : Float} → length f ≤ k → Hexes f k v → x ≡ ofBits binary64 v → Value x ≡ floatOf f
 unfolding floatOf
-hexes-end f k v x h d o =
+hexes-end {f} {k} {v} h d o =
     let a : allOf isHex f ≡ true = sym (d .all) ∙ all-done isHex f k h in
     let e : v ≡ pattern f = sym (fold-done sixteens v f k h) ∙ d .value in
     ap Value (o ∙ ap (ofBits binary64) e) ∙ sym (cond-yes _ _ (and-yes _ (eq-eqb (length f) 16 (d .long)) ∙ a))
@@ -159,7 +159,7 @@ used form j h = go (ltb j (length form)) refl
         let l : length form ≤ j = ltb-false j (length form) e in
         ap (λ (x : List ℕ). fitsForm x []) (drop-of-length-le form l) ∙ sym (eq-eqb j (length form) (omega arith))
 
-module _ (line form : List ℕ) (at j e : ℕ) (h : j < length form) (w : Fitting line form at j) (p : Piece line 44 at e) where
+module _ {line form : List ℕ} {at j e : ℕ} (h : j < length form) (w : Fitting line form at j) (p : Piece line 44 at e) where
   turn : (rest : List (List ℕ)) → split 44 (drop at line) ≡ take (e - at) (drop at line) ∷ rest
       → (isKind (getD form j 0) (take (e - at) (drop at line)) && fitsForm (drop (j + 1) form) rest) ≡ fitsForm form (split 44 line)
   unfolding fitsForm
@@ -183,9 +183,9 @@ module _ (line form : List ℕ) (at j e : ℕ) (h : j < length form) (w : Fittin
       let l : e < length line = omega (arith, p .within) in
       record { within = omega arith; same = sym (and-yes _ k) ∙ turn (split 44 (drop (e + 1) line)) (p .more l) }
 
-pub fits-done : (line form : List ℕ) (at j : ℕ) → length form ≤ j → Fitting line form at j → false ≡ fitsForm form (split 44 line)
+pub fits-done : {line form : List ℕ} {at j : ℕ} → length form ≤ j → Fitting line form at j → false ≡ fitsForm form (split 44 line)
 unfolding fitsForm
-fits-done line form at j h w =
+fits-done {line} {form} {at} {j} h w =
     sym (ap (λ (x : List ℕ). fitsForm x (split 44 (drop at line))) (drop-of-length-le form h) ∙ at-least-one (λ (l : List (List ℕ)). fitsForm [] l ≡ false) (λ f fs. refl) 44 (drop at line))
     ∙ w .same
 
@@ -201,7 +201,7 @@ passing-starts line j = let e : j - 0 ≡ j = omega arith in record { within = o
 nothing : (n : ℕ) (l : List ℕ) → n ≡ 0 → take n l ≡ []
 nothing n l e = ap (λ (k : ℕ). take k l) e
 
-module _ (line : List ℕ) (j at i e : ℕ) (w : Passing line j at i) (p : Piece line 44 at e) where
+module _ {line : List ℕ} {j at i e : ℕ} (w : Passing line j at i) (p : Piece line 44 at e) where
   pub passes-end : i < j → e ≡ length line → take (e - e) (drop e line) ≡ fieldAt (split 44 line) j
   passes-end h q =
       let one : j - i ≡ suc (j - i - 1) = omega arith in

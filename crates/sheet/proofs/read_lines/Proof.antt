@@ -38,29 +38,23 @@ find-requires c κs = search needs
 
 sub-line : tie.Need-sub-line Inv-loop μ-loop
 sub-line c =
-    let args = c .before .before .before .before .before .before .args in
     let loop = c .before .loop in
     let pre = c .before .before .before .before .before .before .pre in
-    let p = line-piece (args .text .now) (loop .seg) (loop .made) (loop .tally) (loop .good) (loop .headed) (loop .stage) (loop .n) (loop .at) (c .find .result) (loop .inv) (c .find .ensures) in
-    let q = pre in
+    let p = line-piece (loop .inv) (c .find .ensures) in
     omega arith
 
 part-line-start : tie.Need-part-line-start Inv-loop μ-loop
 part-line-start c =
-    let args = c .before .before .before .before .before .before .args in
     let loop = c .before .loop in
     let pre = c .before .before .before .before .before .before .pre in
-    let p = line-piece (args .text .now) (loop .seg) (loop .made) (loop .tally) (loop .good) (loop .headed) (loop .stage) (loop .n) (loop .at) (c .find .result) (loop .inv) (c .find .ensures) in
-    let q = pre in
+    let p = line-piece (loop .inv) (c .find .ensures) in
     omega arith
 
 part-line-end : tie.Need-part-line-end Inv-loop μ-loop
 part-line-end c =
-    let args = c .before .before .before .before .before .before .args in
     let loop = c .before .loop in
     let pre = c .before .before .before .before .before .before .pre in
-    let p = line-piece (args .text .now) (loop .seg) (loop .made) (loop .tally) (loop .good) (loop .headed) (loop .stage) (loop .n) (loop .at) (c .find .result) (loop .inv) (c .find .ensures) in
-    let q = pre in
+    let p = line-piece (loop .inv) (c .find .ensures) in
     omega arith
 
 may-end-requires : tie.Need-may-end-requires Inv-loop μ-loop
@@ -72,11 +66,9 @@ end-requires c κs = search needs
 returns : tie.Need-returns Inv-loop μ-loop
 returns c =
     let loop = c .before .before .before .before .before .loop in
-    let args = c .before .before .before .before .before .before .before .before .before .before .args in
     let find = c .before .before .before .before .find in
     let if1 = c .before .before .if1 in
-    c .end .ensures ∙ ap (λ b. ended b (loop .n) (loop .good) (accepted (loop .tally) (loop .made) (loop .seg))) (c .before .may-end .ensures)
-    ∙ at-end (args .text .now) (loop .seg) (loop .made) (loop .tally) (loop .good) (loop .headed) (loop .stage) (loop .n) (loop .at) (find .result) (loop .inv) (find .ensures) (if1 .taken)
+    c .end .ensures ∙ at-end (loop .inv) (find .ensures) (if1 .taken) (c .before .may-end .ensures)
 
 record-of-requires : tie.Need-record-of-requires Inv-loop μ-loop
 record-of-requires c κs = search needs
@@ -89,14 +81,13 @@ refuse-requires c κs = search needs
 
 returns-2 : tie.Need-returns-2 Inv-loop μ-loop
 returns-2 c =
-    let args = c .before .before .before .before .before .before .before .before .before .before .before .before .args in
     let loop = c .before .before .before .before .before .before .before .loop in
     let find = c .before .before .before .before .before .before .find in
     let if1 = c .before .before .before .before .if1 in
     let record-of = c .before .before .before .record-of in
     let may-follow = c .before .before .may-follow in
     c .refuse .ensures
-    ∙ out-of-order (args .text .now) (loop .seg) (loop .made) (loop .tally) (loop .good) (loop .headed) (loop .stage) (loop .n) (loop .at) (find .result) (loop .inv) (find .ensures) (if1 .left) (record-of .result) (record-of .ensures) (sym (may-follow .ensures) ∙ not-true _ (c .before .if2 .taken))
+    ∙ out-of-order (loop .inv) (find .ensures) (if1 .left) (record-of .ensures) (sym (may-follow .ensures) ∙ not-true _ (c .before .if2 .taken))
 
 kind-of-requires : tie.Need-kind-of-requires Inv-loop μ-loop
 kind-of-requires c κs = search needs
@@ -106,22 +97,18 @@ stage-after-requires c κs = search needs
 
 add-n : tie.Need-add-n Inv-loop μ-loop
 add-n c =
-    let args = c .before .before .before .before .before .before .before .before .before .before .before .before .before .args in
     let loop = c .before .before .before .before .before .before .before .before .loop in
     let find = c .before .before .before .before .before .before .before .find in
     let pre = c .before .before .before .before .before .before .before .before .before .before .before .before .before .pre in
-    let p = line-piece (args .text .now) (loop .seg) (loop .made) (loop .tally) (loop .good) (loop .headed) (loop .stage) (loop .n) (loop .at) (find .result) (loop .inv) (find .ensures) in
-    let q = pre in
+    let p = line-piece (loop .inv) (find .ensures) in
     omega arith
 
 add-at : tie.Need-add-at Inv-loop μ-loop
 add-at c =
-    let args = c .before .before .before .before .before .before .before .before .before .before .before .before .before .args in
     let loop = c .before .before .before .before .before .before .before .before .loop in
     let find = c .before .before .before .before .before .before .before .find in
     let pre = c .before .before .before .before .before .before .before .before .before .before .before .before .before .pre in
-    let p = line-piece (args .text .now) (loop .seg) (loop .made) (loop .tally) (loop .good) (loop .headed) (loop .stage) (loop .n) (loop .at) (find .result) (loop .inv) (find .ensures) in
-    let q = pre in
+    let p = line-piece (loop .inv) (find .ensures) in
     omega arith
 
 count-requires : tie.Need-count-requires Inv-loop μ-loop
@@ -167,17 +154,14 @@ array-set-from-seg c =
 
 loop-less : tie.Need-loop-less Inv-loop μ-loop
 loop-less c =
-    let args = c .before .before .before .before .before .before .before .before .before .before .before .before .before .before .before .before .before .before .before .before .args in
     let loop = c .before .before .before .before .before .before .before .before .before .before .before .before .before .before .before .loop in
     let find = c .before .before .before .before .before .before .before .before .before .before .before .before .before .before .find in
     let pre = c .before .before .before .before .before .before .before .before .before .before .before .before .before .before .before .before .before .before .before .before .pre in
-    let p = line-piece (args .text .now) (loop .seg) (loop .made) (loop .tally) (loop .good) (loop .headed) (loop .stage) (loop .n) (loop .at) (find .result) (loop .inv) (find .ensures) in
-    let q = pre in
+    let p = line-piece (loop .inv) (find .ensures) in
     omega arith
 
 loop-again : tie.Need-loop-again Inv-loop μ-loop
 loop-again c =
-    let args = c .before .before .before .before .before .before .before .before .before .before .before .before .before .before .before .before .before .before .before .before .args in
     let loop = c .before .before .before .before .before .before .before .before .before .before .before .before .before .before .before .loop in
     let find = c .before .before .before .before .before .before .before .before .before .before .before .before .before .before .find in
     let if1 = c .before .before .before .before .before .before .before .before .before .before .before .before .if1 in
@@ -191,21 +175,18 @@ loop-again c =
     let within = c .before .before .before .before .within in
     let if4 = c .before .before .before .if4 in
     let put = c .before .before .put in
-    reads-edge (args .text .now) (loop .seg) (loop .made) (loop .tally) (loop .good) (loop .headed) (loop .stage) (loop .n) (loop .at) (find .result) (loop .inv) (find .ensures) (if1 .left) (record-of .result) (record-of .ensures) (sym (may-follow .ensures) ∙ not-false _ (if2 .left)) (kind-of .result) (stage-after .result) (kind-of .ensures) (stage-after .ensures) (if3 .taken) (count .result) (within .result) (count .ensures) (within .ensures) (if4 .taken) (put .result) (put .ensures) (c .before .if5 .taken) (c .edge-of .result) (c .edge-of .ensures)
+    reads-edge (loop .inv) (find .ensures) (if1 .left) (record-of .ensures) (sym (may-follow .ensures) ∙ not-false _ (if2 .left)) (kind-of .ensures) (stage-after .ensures) (if3 .taken) (count .ensures) (within .ensures) (if4 .taken) (put .ensures) (c .before .if5 .taken) (c .edge-of .ensures)
 
 loop-less-2 : tie.Need-loop-less-2 Inv-loop μ-loop
 loop-less-2 c =
-    let args = c .before .before .before .before .before .before .before .before .before .before .before .before .before .before .before .before .before .before .before .args in
     let loop = c .before .before .before .before .before .before .before .before .before .before .before .before .before .before .loop in
     let find = c .before .before .before .before .before .before .before .before .before .before .before .before .before .find in
     let pre = c .before .before .before .before .before .before .before .before .before .before .before .before .before .before .before .before .before .before .before .pre in
-    let p = line-piece (args .text .now) (loop .seg) (loop .made) (loop .tally) (loop .good) (loop .headed) (loop .stage) (loop .n) (loop .at) (find .result) (loop .inv) (find .ensures) in
-    let q = pre in
+    let p = line-piece (loop .inv) (find .ensures) in
     omega arith
 
 loop-again-2 : tie.Need-loop-again-2 Inv-loop μ-loop
 loop-again-2 c =
-    let args = c .before .before .before .before .before .before .before .before .before .before .before .before .before .before .before .before .before .before .before .args in
     let loop = c .before .before .before .before .before .before .before .before .before .before .before .before .before .before .loop in
     let find = c .before .before .before .before .before .before .before .before .before .before .before .before .before .find in
     let if1 = c .before .before .before .before .before .before .before .before .before .before .before .if1 in
@@ -219,21 +200,18 @@ loop-again-2 c =
     let within = c .before .before .before .within in
     let if4 = c .before .before .if4 in
     let put = c .before .put in
-    reads-on (args .text .now) (loop .seg) (loop .made) (loop .tally) (loop .good) (loop .headed) (loop .stage) (loop .n) (loop .at) (find .result) (loop .inv) (find .ensures) (if1 .left) (record-of .result) (record-of .ensures) (sym (may-follow .ensures) ∙ not-false _ (if2 .left)) (kind-of .result) (stage-after .result) (kind-of .ensures) (stage-after .ensures) (if3 .taken) (count .result) (within .result) (count .ensures) (within .ensures) (if4 .taken) (put .result) (put .ensures) (c .if5 .left)
+    reads-on (loop .inv) (find .ensures) (if1 .left) (record-of .ensures) (sym (may-follow .ensures) ∙ not-false _ (if2 .left)) (kind-of .ensures) (stage-after .ensures) (if3 .taken) (count .ensures) (within .ensures) (if4 .taken) (put .ensures) (c .if5 .left)
 
 loop-less-3 : tie.Need-loop-less-3 Inv-loop μ-loop
 loop-less-3 c =
-    let args = c .before .before .before .before .before .before .before .before .before .before .before .before .before .before .before .before .before .args in
     let loop = c .before .before .before .before .before .before .before .before .before .before .before .before .loop in
     let find = c .before .before .before .before .before .before .before .before .before .before .before .find in
     let pre = c .before .before .before .before .before .before .before .before .before .before .before .before .before .before .before .before .before .pre in
-    let p = line-piece (args .text .now) (loop .seg) (loop .made) (loop .tally) (loop .good) (loop .headed) (loop .stage) (loop .n) (loop .at) (find .result) (loop .inv) (find .ensures) in
-    let q = pre in
+    let p = line-piece (loop .inv) (find .ensures) in
     omega arith
 
 loop-again-3 : tie.Need-loop-again-3 Inv-loop μ-loop
 loop-again-3 c =
-    let args = c .before .before .before .before .before .before .before .before .before .before .before .before .before .before .before .before .before .args in
     let loop = c .before .before .before .before .before .before .before .before .before .before .before .before .loop in
     let find = c .before .before .before .before .before .before .before .before .before .before .before .find in
     let if1 = c .before .before .before .before .before .before .before .before .before .if1 in
@@ -245,21 +223,18 @@ loop-again-3 c =
     let if3 = c .before .before .before .if3 in
     let count = c .before .before .count in
     let within = c .before .within in
-    reads-over (args .text .now) (loop .seg) (loop .made) (loop .tally) (loop .good) (loop .headed) (loop .stage) (loop .n) (loop .at) (find .result) (loop .inv) (find .ensures) (if1 .left) (record-of .result) (record-of .ensures) (sym (may-follow .ensures) ∙ not-false _ (if2 .left)) (kind-of .result) (stage-after .result) (kind-of .ensures) (stage-after .ensures) (if3 .taken) (count .result) (within .result) (count .ensures) (within .ensures) (c .if4 .left)
+    reads-over (loop .inv) (find .ensures) (if1 .left) (record-of .ensures) (sym (may-follow .ensures) ∙ not-false _ (if2 .left)) (kind-of .ensures) (stage-after .ensures) (if3 .taken) (count .ensures) (within .ensures) (c .if4 .left)
 
 loop-less-4 : tie.Need-loop-less-4 Inv-loop μ-loop
 loop-less-4 c =
-    let args = c .before .before .before .before .before .before .before .before .before .before .before .before .before .before .args in
     let loop = c .before .before .before .before .before .before .before .before .before .loop in
     let find = c .before .before .before .before .before .before .before .before .find in
     let pre = c .before .before .before .before .before .before .before .before .before .before .before .before .before .before .pre in
-    let p = line-piece (args .text .now) (loop .seg) (loop .made) (loop .tally) (loop .good) (loop .headed) (loop .stage) (loop .n) (loop .at) (find .result) (loop .inv) (find .ensures) in
-    let q = pre in
+    let p = line-piece (loop .inv) (find .ensures) in
     omega arith
 
 loop-again-4 : tie.Need-loop-again-4 Inv-loop μ-loop
 loop-again-4 c =
-    let args = c .before .before .before .before .before .before .before .before .before .before .before .before .before .before .args in
     let loop = c .before .before .before .before .before .before .before .before .before .loop in
     let find = c .before .before .before .before .before .before .before .before .find in
     let if1 = c .before .before .before .before .before .before .if1 in
@@ -268,7 +243,7 @@ loop-again-4 c =
     let if2 = c .before .before .before .if2 in
     let kind-of = c .before .before .kind-of in
     let stage-after = c .before .stage-after in
-    reads-past (args .text .now) (loop .seg) (loop .made) (loop .tally) (loop .good) (loop .headed) (loop .stage) (loop .n) (loop .at) (find .result) (loop .inv) (find .ensures) (if1 .left) (record-of .result) (record-of .ensures) (sym (may-follow .ensures) ∙ not-false _ (if2 .left)) (kind-of .result) (stage-after .result) (kind-of .ensures) (stage-after .ensures) (c .if3 .left)
+    reads-past (loop .inv) (find .ensures) (if1 .left) (record-of .ensures) (sym (may-follow .ensures) ∙ not-false _ (if2 .left)) (kind-of .ensures) (stage-after .ensures) (c .if3 .left)
 
 pub read-lines-spec : {M : Type 1} → statement M
 read-lines-spec =

@@ -49,7 +49,7 @@ returns c =
     let find = c .before .before .find in
     let loop-test = c .before .before .before .loop-test in
     let p = piece (args .line .now) 44 (loop .at) (find .result) (loop .inv .within) (find .ensures) in
-    passes-end (args .line .now) (args .j) (loop .at) (loop .i) (find .result) (loop .inv) p (loop-test .taken) (c .before .if1 .taken)
+    passes-end (loop .inv) p (loop-test .taken) (c .before .if1 .taken)
 
 add-at : tie.Need-add-at Inv-loop μ-loop
 add-at c =
@@ -72,7 +72,7 @@ loop-again c =
     let find = c .before .find in
     let loop-test = c .before .before .loop-test in
     let p = piece (args .line .now) 44 (loop .at) (find .result) (loop .inv .within) (find .ensures) in
-    passes (args .line .now) (args .j) (loop .at) (loop .i) (find .result) (loop .inv) p (loop-test .taken) (c .if1 .left)
+    passes (loop .inv) p (loop-test .taken) (c .if1 .left)
 
 find-requires-2 : tie.Need-find-requires-2 Inv-loop μ-loop
 find-requires-2 c κs = search needs
@@ -105,7 +105,7 @@ returns-2 c =
     let find2 = c .before .find2 in
     let loop-test = c .before .before .loop-test in
     let p = piece (args .line .now) 44 (loop .at) (find2 .result) (loop .inv .within) (find2 .ensures) in
-    passed (args .line .now) (args .j) (loop .at) (loop .i) (find2 .result) (loop .inv) p (loop-test .left)
+    passed (loop .inv) p (loop-test .left)
 
 pub field-spec : {M : Type 1} → statement M
 field-spec =

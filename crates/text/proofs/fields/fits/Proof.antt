@@ -55,7 +55,7 @@ returns c =
     let find = c .before .before .before .before .find in
     let loop-test = c .before .before .before .before .before .loop-test in
     let p = piece (args .line .now) 44 (loop .at) (find .result) (loop .inv .within) (find .ensures) in
-    fits-no (args .line .now) (args .form .now) (loop .at) (loop .j) (find .result) (loop-test .taken) (loop .inv) p (sym (c .before .is-kind .ensures) ∙ not-true _ (c .if1 .taken))
+    fits-no (loop-test .taken) (loop .inv) p (sym (c .before .is-kind .ensures) ∙ not-true _ (c .if1 .taken))
 
 add-j : tie.Need-add-j Inv-loop μ-loop
 add-j c = omega arith
@@ -68,7 +68,7 @@ returns-2 c =
     let loop-test = c .before .before .before .before .before .before .loop-test in
     let is-kind = c .before .before .is-kind in
     let p = piece (args .line .now) 44 (loop .at) (find .result) (loop .inv .within) (find .ensures) in
-    fits-last (args .line .now) (args .form .now) (loop .at) (loop .j) (find .result) (loop-test .taken) (loop .inv) p (sym (is-kind .ensures) ∙ not-false _ (c .before .if1 .left)) (c .if2 .taken)
+    fits-last (loop-test .taken) (loop .inv) p (sym (is-kind .ensures) ∙ not-false _ (c .before .if1 .left)) (c .if2 .taken)
 
 add-at : tie.Need-add-at Inv-loop μ-loop
 add-at c =
@@ -89,13 +89,12 @@ loop-again c =
     let loop-test = c .before .before .before .before .before .before .loop-test in
     let is-kind = c .before .before .is-kind in
     let p = piece (args .line .now) 44 (loop .at) (find .result) (loop .inv .within) (find .ensures) in
-    fits-more (args .line .now) (args .form .now) (loop .at) (loop .j) (find .result) (loop-test .taken) (loop .inv) p (sym (is-kind .ensures) ∙ not-false _ (c .before .if1 .left)) (c .if2 .left)
+    fits-more (loop-test .taken) (loop .inv) p (sym (is-kind .ensures) ∙ not-false _ (c .before .if1 .left)) (c .if2 .left)
 
 returns-3 : tie.Need-returns-3 Inv-loop μ-loop
 returns-3 c =
-    let args = c .before .before .before .before .args in
     let loop = c .before .loop in
-    fits-done (args .line .now) (args .form .now) (loop .at) (loop .j) (c .loop-test .left) (loop .inv)
+    fits-done (c .loop-test .left) (loop .inv)
 
 pub fits-spec : {M : Type 1} → statement M
 fits-spec =

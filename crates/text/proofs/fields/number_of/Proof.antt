@@ -35,10 +35,9 @@ is-digit-requires c κs = search needs
 
 returns-2 : tie.Need-returns-2 Inv-loop μ-loop
 returns-2 c =
-    let args = c .before .before .before .before .before .before .before .before .args in
     let loop = c .before .before .before .before .loop in
     let loop-test = c .before .before .before .loop-test in
-    not-digit (args .f .now) (loop .i) (loop .v) (loop-test .taken) (loop .inv) (sym (c .before .is-digit .ensures) ∙ not-true _ (c .if2 .taken))
+    not-digit (loop-test .taken) (loop .inv) (sym (c .before .is-digit .ensures) ∙ not-true _ (c .if2 .taken))
 
 mul-v : tie.Need-mul-v Inv-loop μ-loop
 mul-v c = omega arith
@@ -63,10 +62,9 @@ add-v c =
 
 returns-3 : tie.Need-returns-3 Inv-loop μ-loop
 returns-3 c =
-    let args = c .before .before .before .before .before .before .before .before .before .args in
     let loop = c .before .before .before .before .before .loop in
     let loop-test = c .before .before .before .before .loop-test in
-    too-large (args .f .now) (loop .i) (loop .v) (loop-test .taken) (loop .inv) (c .if3 .taken)
+    too-large (loop-test .taken) (loop .inv) (c .if3 .taken)
 
 add-i : tie.Need-add-i Inv-loop μ-loop
 add-i c = omega arith
@@ -76,17 +74,15 @@ loop-less c = omega arith
 
 loop-again : tie.Need-loop-again Inv-loop μ-loop
 loop-again c =
-    let args = c .before .before .before .before .before .before .before .before .before .args in
     let loop = c .before .before .before .before .before .loop in
     let loop-test = c .before .before .before .before .loop-test in
     let is-digit = c .before .before .is-digit in
-    digits-more (args .f .now) (loop .i) (loop .v) (loop-test .taken) (loop .inv) (sym (is-digit .ensures) ∙ not-false _ (c .before .if2 .left)) (c .if3 .left)
+    digits-more (loop-test .taken) (loop .inv) (sym (is-digit .ensures) ∙ not-false _ (c .before .if2 .left)) (c .if3 .left)
 
 returns-4 : tie.Need-returns-4 Inv-loop μ-loop
 returns-4 c =
-    let args = c .before .before .before .before .before .args in
     let loop = c .before .loop in
-    digits-end (args .f .now) (loop .i) (loop .v) (c .loop-test .left) (loop .inv)
+    digits-end (c .loop-test .left) (loop .inv)
 
 pub number-of-spec : {M : Type 1} → statement M
 number-of-spec =

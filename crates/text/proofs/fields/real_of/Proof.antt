@@ -28,27 +28,24 @@ is-hex-requires c κs = search needs
 
 returns-2 : tie.Need-returns-2 Inv-loop μ-loop
 returns-2 c =
-    let args = c .before .before .before .before .before .before .before .args in
     let loop = c .before .before .before .before .loop in
     let loop-test = c .before .before .before .loop-test in
-    not-hex (args .f .now) (loop .k) (loop .v) (loop-test .taken) (loop .inv) (sym (c .before .is-hex .ensures) ∙ not-true _ (c .if2 .taken))
+    not-hex (loop-test .taken) (loop .inv) (sym (c .before .is-hex .ensures) ∙ not-true _ (c .if2 .taken))
 
 mul-v : tie.Need-mul-v Inv-loop μ-loop
 mul-v c =
-    let args = c .before .before .before .before .before .before .before .args in
     let loop = c .before .before .before .before .loop in
     let loop-test = c .before .before .before .loop-test in
-    omega (arith, hexes-room (args .f .now) (loop .k) (loop .v) (loop-test .taken) (loop .inv))
+    omega (arith, hexes-room (loop-test .taken) (loop .inv))
 
 hex-value-requires : tie.Need-hex-value-requires Inv-loop μ-loop
 hex-value-requires c κs = sym (c .before .is-hex .ensures) ∙ not-false _ (c .if2 .left)
 
 add-v : tie.Need-add-v Inv-loop μ-loop
 add-v c =
-    let args = c .before .before .before .before .before .before .before .before .args in
     let loop = c .before .before .before .before .before .loop in
     let loop-test = c .before .before .before .before .loop-test in
-    omega (arith, hexes-room (args .f .now) (loop .k) (loop .v) (loop-test .taken) (loop .inv))
+    omega (arith, hexes-room (loop-test .taken) (loop .inv))
 
 add-k : tie.Need-add-k Inv-loop μ-loop
 add-k c = omega arith
@@ -58,20 +55,18 @@ loop-less c = omega arith
 
 loop-again : tie.Need-loop-again Inv-loop μ-loop
 loop-again c =
-    let args = c .before .before .before .before .before .before .before .before .args in
     let loop = c .before .before .before .before .before .loop in
     let loop-test = c .before .before .before .before .loop-test in
     let is-hex = c .before .before .is-hex in
-    hexes-more (args .f .now) (loop .k) (loop .v) (loop-test .taken) (loop .inv) (c .hex-value .result) (sym (is-hex .ensures) ∙ not-false _ (c .before .if2 .left)) (c .hex-value .ensures .0) (c .hex-value .ensures .1)
+    hexes-more (loop-test .taken) (loop .inv) (c .hex-value .result) (sym (is-hex .ensures) ∙ not-false _ (c .before .if2 .left)) (c .hex-value .ensures .0) (c .hex-value .ensures .1)
 
 of-pattern-requires : tie.Need-of-pattern-requires Inv-loop μ-loop
 of-pattern-requires c κs = search needs
 
 returns-3 : tie.Need-returns-3 Inv-loop μ-loop
 returns-3 c =
-    let args = c .before .before .before .before .before .args in
     let loop = c .before .before .loop in
-    hexes-end (args .f .now) (loop .k) (loop .v) (c .of-pattern .result) (c .before .loop-test .left) (loop .inv) (c .of-pattern .ensures)
+    hexes-end (c .before .loop-test .left) (loop .inv) (c .of-pattern .ensures)
 
 pub real-of-spec : {M : Type 1} → statement M
 real-of-spec =
