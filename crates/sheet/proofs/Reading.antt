@@ -24,7 +24,7 @@ use Rattle.sheet.specs.declared.draft.Draft.{Draft}
 use Rattle.sheet.specs.Grammar.{placeOf, follows, kindOf, mayEnd}
 use Rattle.sheet.specs.Limits.{Bounds, noLines, counted, withinLimits}
 use Rattle.sheet.specs.Draft.{noDraft, put, edgeOf}
-use Rattle.sheet.specs.Read.{Lines, stuck, whole, then, lineOf, lines, allWithin, drafted, edges, noOutlines, accepted, refused, ended, judged, linesOf}
+use Rattle.sheet.specs.Read.{Lines, stuck, whole, then, lineOf, lines, allWithin, drafted, edges, noOutlines, accepted, refused, ended, judged, sheetOfLines}
 use Rattle.sheet.proofs.Counting.{bounds, no-lines-bounds}
 
 abbrev M : ℕ
@@ -42,10 +42,10 @@ pub record Reading (text : List ℕ) (seg : List OutlineSeg) (made : Draft) (tal
   pub inside : at ≤ length text
   pub numbered : n ≤ at + 1
   pub bounded : good ≡ true → Bounds tally
-  pub same : judgedFrom good tally made seg (lines headed stage n (split 10 (drop at text))) ≡ linesOf text
+  pub same : judgedFrom good tally made seg (lines headed stage n (split 10 (drop at text))) ≡ sheetOfLines text
 
 pub reading-starts : (text : List ℕ) (d : Draft) (t : Tally) → d ≡ noDraft → t ≡ noLines → Reading text noOutlines d t true false 0 1 0
-unfolding linesOf
+unfolding sheetOfLines
 reading-starts text d t e f = record {
   inside = omega arith;
   numbered = omega arith;
@@ -134,7 +134,7 @@ module _ {text : List ℕ} {seg : List OutlineSeg} {made : Draft} {tally : Tally
   line-piece = piece text 10 at e (w .inside) q
 
   -- the last piece
-  pub at-end : e ≡ length text → {b : Bool} → b ≡ mayEnd (length (take (e - at) (drop at text))) headed stage → ended b n good (accepted tally made seg) ≡ linesOf text
+  pub at-end : e ≡ length text → {b : Bool} → b ≡ mayEnd (length (take (e - at) (drop at text))) headed stage → ended b n good (accepted tally made seg) ≡ sheetOfLines text
   unfolding lines allWithin drafted edges foldOf
   at-end h {b} y =
       go b good
@@ -152,7 +152,7 @@ module _ {text : List ℕ} {seg : List OutlineSeg} {made : Draft} {tally : Tally
     abbrev rest : Lines
     rest = lines (headed || eqb (kindOf r) M) (placeOf r .next) (n + 1) (split 10 (drop (e + 1) text))
 
-    line-judged : judgedFrom good tally made seg (cond (follows stage r) (then r rest) (stuck n)) ≡ linesOf text
+    line-judged : judgedFrom good tally made seg (cond (follows stage r) (then r rest) (stuck n)) ≡ sheetOfLines text
     line-judged =
         let l : e < length text = omega (arith, line-piece .within) in
         ap (λ (x : Record). judgedFrom good tally made seg (cond (follows stage x) (then x (lines (headed || eqb (kindOf x) M) (placeOf x .next) (n + 1) (split 10 (drop (e + 1) text)))) (stuck n))) f
@@ -160,7 +160,7 @@ module _ {text : List ℕ} {seg : List OutlineSeg} {made : Draft} {tally : Tally
         ∙ sym (ap (λ (ps : List (List ℕ)). judgedFrom good tally made seg (lines headed stage n ps)) (line-piece .more l))
         ∙ w .same
 
-    pub out-of-order : follows stage r ≡ false → refused (LineNotRead n) ≡ linesOf text
+    pub out-of-order : follows stage r ≡ false → refused (LineNotRead n) ≡ sheetOfLines text
     out-of-order g = sym (ap (judgedFrom good tally made seg) (cond-no _ (stuck n) g)) ∙ line-judged
 
     -- the next line, from what this one leaves

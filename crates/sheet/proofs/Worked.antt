@@ -26,7 +26,7 @@ use Rattle.text.specs.Fields.{written, decimal, numberOf, pattern, floatOf, let
 use Rattle.text.specs.Records.{firstFit}
 use Rattle.sheet.specs.Limits.{counted, withinLimits}
 use Rattle.sheet.specs.Draft.{noBody, noPart, noSeg, noRange, newPair, noEntry, noDraft, put}
-use Rattle.sheet.specs.Read.{lines, allWithin, drafted, edges, accepted, refused, linesOf, sheetOf}
+use Rattle.sheet.specs.Read.{lines, allWithin, drafted, edges, accepted, refused, sheetOfLines, sheetOf}
 
 -- each line with its newline
 abbrev text : List String → List ℕ
@@ -71,7 +71,7 @@ pub record RefusedTexts : Type 0 where
   pub order-first : sheetOf (text ("M,17" ∷ "G,3ff0000000000000" ∷ "G,3ff0000000000000" ∷ [])) ≡ refused (LineNotRead 3)
 
 pub refused-texts : RefusedTexts
-unfolding allOf foldOf onto split written decimal numberOf pattern floatOf letterOf isKind fitsForm firstFit counted withinLimits noDraft put lines allWithin drafted edges linesOf sheetOf
+unfolding allOf foldOf onto split written decimal numberOf pattern floatOf letterOf isKind fitsForm firstFit counted withinLimits noDraft put lines allWithin drafted edges sheetOfLines sheetOf
 refused-texts = record {
   empty = refl;
   only-margin = refl;
@@ -97,7 +97,7 @@ abbrev seventeen : List ℕ
 seventeen = text ("M,1" ∷ "G,3ff0000000000000" ∷ replicate 17 "T,0000000000000000,0000000000000000,3ff0000000000000")
 
 pub seventeen-entries : (sheetOf seventeen .checked ≡ Accepted) × (sheetOf seventeen .entries .count ≡ 17)
-unfolding allOf foldOf onto split written decimal numberOf pattern floatOf letterOf isKind fitsForm firstFit counted withinLimits noDraft put lines allWithin drafted edges accepted linesOf sheetOf
+unfolding allOf foldOf onto split written decimal numberOf pattern floatOf letterOf isKind fitsForm firstFit counted withinLimits noDraft put lines allWithin drafted edges accepted sheetOfLines sheetOf
 seventeen-entries = (refl, refl)
 
 -- ---- the sheet of document 01
@@ -156,5 +156,5 @@ pub paper-says : sheetOf paper ≡ record {
   margin = oneF;
   entries = record { count = 1; entry = record { value = ofBits binary64 0x3ff8000000000000; sine = zeroF; cosine = oneF } ∷ replicate 15 noEntry };
 }
-unfolding allOf foldOf onto split written decimal numberOf pattern floatOf letterOf isKind fitsForm firstFit counted withinLimits noDraft put lines allWithin drafted edges accepted linesOf sheetOf dirOf rootOf ofBits add mul div lt
+unfolding allOf foldOf onto split written decimal numberOf pattern floatOf letterOf isKind fitsForm firstFit counted withinLimits noDraft put lines allWithin drafted edges accepted sheetOfLines sheetOf dirOf rootOf ofBits add mul div lt
 paper-says = refl

@@ -90,9 +90,9 @@ abbrev pub judged : Lines → Sheet
 judged (stuck n) = refused (LineNotRead n)
 judged (whole rs) = cond (allWithin noLines rs) (accepted (foldOf counted noLines rs) (drafted noLines noDraft rs) (sets noOutlines 0 (edges rs))) (refused LimitPassed)
 
-unfoldable pub linesOf : List ℕ → Sheet
-linesOf text = judged (lines false start 1 (split (code "\n") text))
+unfoldable pub sheetOfLines : List ℕ → Sheet
+sheetOfLines text = judged (lines false start 1 (split (code "\n") text))
 
 -- what a text says
 unfoldable pub sheetOf : List ℕ → Sheet
-sheetOf text = cond (ltb 65536 (length text)) (refused TextTooLong) (linesOf text)
+sheetOf text = cond (ltb 65536 (length text)) (refused TextTooLong) (sheetOfLines text)

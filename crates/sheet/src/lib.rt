@@ -17,7 +17,7 @@ use mechanism::pose::Entry;
 ghost use mathlib.Core.Path.{_≡_};
 ghost use Prim.Native.Nat.{_≤_};
 ghost use lib.ListN.{length};
-ghost use Rattle.sheet.specs.Read.{accepted, refused, ended, linesOf, sheetOf};
+ghost use Rattle.sheet.specs.Read.{accepted, refused, ended, sheetOfLines, sheetOf};
 
 // What a text gives for each coordinate, T line by T line. Entries past sixteen are not kept, and a count of seventeen stands for any above sixteen.
 pub struct Entries {
@@ -96,7 +96,7 @@ fn end(fit: bool, line: usize, kept: bool, t: Tally, d: Draft, seg: [OutlineSeg;
 // Line by line. After a limit is passed only the order of lines is looked at.
 fn read_lines(text: &[u8]) -> Sheet
     requires { ⌜ length (now text) ≤ 65536 ⌝ }
-    ensures { λ r. ⌜ r ≡ linesOf (now (text .entry)) ⌝ }
+    ensures { λ r. ⌜ r ≡ sheetOfLines (now (text .entry)) ⌝ }
 {
     let g = draft::no_seg();
     let mut seg = [g; 384];

@@ -5,7 +5,6 @@ use mathlib.Core.Path.{sym, ap, subst, _∙_}
 use lib.ListN.{length}
 use borrow.Author.Tests.{not-true, not-false}
 use Rattle.sheet.specs.Limits.{Narrow, counted, withinLimits}
-use Rattle.sheet.specs.Read.{accepted, ended}
 use Rattle.sheet.proofs.Counting.{bounds, room, narrow}
 use Rattle.sheet.proofs.Reading.{Reading, reading-starts, line-piece, at-end, out-of-order, reads-past, reads-over, reads-on, reads-edge, one-edge}
 use Rattle.sheet.proofs.read_lines.Statement.{statement}
