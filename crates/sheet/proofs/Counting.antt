@@ -14,7 +14,7 @@ use Rattle.text.specs.declared.records.Record.{Record}
 use Rattle.text.specs.declared.records.Record.the-variants.{Coords, Joined, Drawn, Edge, Paired, OnA, OnB, Margin, Turned, Malformed}
 use Rattle.sheet.specs.declared.limits.Side.{Side}
 use Rattle.sheet.specs.declared.limits.Tally.{Tally}
-use Rattle.sheet.specs.Limits.{Bounds, Narrow, noLines, counted, sideWithin, withinLimits}
+use Rattle.sheet.specs.Limits.{Bounds, Narrow, noTally, counted, sideWithin, withinLimits}
 use Rattle.sheet.specs.Draft.{Room}
 
 side-bounds : (s : Side) → sideWithin s ≡ true → (s .ranges ≤ 4) × (s .segs ≤ 12)
@@ -45,8 +45,8 @@ bounds t e =
       b-segs = side-bounds (t .b) (n .1) .1;
     }
 
-pub no-lines-bounds : Bounds noLines
-no-lines-bounds = record { coords = omega arith; bodies = omega arith; parts = omega arith; drawn = omega arith; segs = omega arith; pairs = omega arith; a-ranges = omega arith; a-segs = omega arith; b-ranges = omega arith; b-segs = omega arith }
+pub no-tally-bounds : Bounds noTally
+no-tally-bounds = record { coords = omega arith; bodies = omega arith; parts = omega arith; drawn = omega arith; segs = omega arith; pairs = omega arith; a-ranges = omega arith; a-segs = omega arith; b-ranges = omega arith; b-segs = omega arith }
 
 pub room : (t : Tally) (r : Record) → Bounds (counted t r) → Room t r
 unfolding counted

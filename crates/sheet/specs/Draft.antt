@@ -41,6 +41,9 @@ zeroPoint = record { x = zeroF; y = zeroF }
 abbrev pub noSeg : OutlineSeg
 noSeg = record { seg = Line zeroPoint zeroPoint }
 
+abbrev pub noOutlines : List OutlineSeg
+noOutlines = replicate 384 noSeg
+
 abbrev pub noRange : SurfaceRef
 noRange = record { part = 0; start = 0; end = 0 }
 

@@ -1,14 +1,15 @@
 -- The order of lines: M, J, P with its L and A, K with its S, G, T; of a pair's S lines those of side A before those of B. Definitions only.
 use Prim.Native.Nat.{ℕ}
 use Prim.Native.Char.{code}
-use mathlib.Core.Bool.{Bool, _&&_}
+use mathlib.Core.Bool.{Bool, false, _&&_, _||_}
 use lib.Dec.{leb, eqb}
 use Rattle.text.specs.declared.records.Record.{Record}
 use Rattle.text.specs.declared.records.Record.the-variants.{Coords, Joined, Drawn, Edge, Paired, OnA, OnB, Margin, Turned, Malformed}
 use Rattle.sheet.specs.declared.grammar.Place.{Place}
+use Rattle.sheet.specs.declared.grammar.Standing.{Standing}
 
--- how far a text has come, by its last line: none yet; M or J; P, L or A; K or S,A; S,B; G or T
-abbrev pub start : ℕ
+-- the stages of a text, by its last line: none yet; M or J; P, L or A; K or S,A; S,B; G or T
+abbrev start : ℕ
 start = 0
 
 abbrev bodies : ℕ
@@ -43,9 +44,6 @@ placeOf (Margin m) = may start sideB pose
 placeOf (Turned e) = may pose pose pose
 placeOf Malformed = may bodies start start
 
-abbrev pub follows : ℕ → Record → Bool
-follows stage r = leb (placeOf r .low) stage && leb stage (placeOf r .high)
-
 -- the letter of a record's kind; A lines are of L's
 abbrev pub kindOf : Record → ℕ
 kindOf (Coords n) = code "M"
@@ -59,6 +57,16 @@ kindOf (Margin m) = code "G"
 kindOf (Turned e) = code "T"
 kindOf Malformed = 0
 
+-- how far a text has come: its stage, and whether M was read
+abbrev pub noLine : Standing
+noLine = record { stage = start; headed = false }
+
+abbrev pub after : Standing → Record → Standing
+after s r = record { stage = placeOf r .next; headed = s .headed || eqb (kindOf r) (code "M") }
+
+abbrev pub follows : Standing → Record → Bool
+follows s r = leb (placeOf r .low) (s .stage) && leb (s .stage) (placeOf r .high)
+
 -- a text may end after a newline, once M and G were read
-abbrev pub mayEnd : ℕ → Bool → ℕ → Bool
-mayEnd left headed stage = eqb left 0 && (headed && eqb stage pose)
+abbrev pub mayEnd : ℕ → Standing → Bool
+mayEnd left s = eqb left 0 && (s .headed && eqb (s .stage) pose)

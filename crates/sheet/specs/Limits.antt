@@ -11,8 +11,8 @@ use Rattle.sheet.specs.declared.limits.Tally.{Tally}
 abbrev pub noSide : Side
 noSide = record { ranges = 0; segs = 0 }
 
-abbrev pub noLines : Tally
-noLines = record { coords = 0; bodies = 0; parts = 0; drawn = 0; segs = 0; pairs = 0; a = noSide; b = noSide }
+abbrev pub noTally : Tally
+noTally = record { coords = 0; bodies = 0; parts = 0; drawn = 0; segs = 0; pairs = 0; a = noSide; b = noSide }
 
 -- a range counts past-last less first, or nothing where that is not above zero
 abbrev pub moreSide : Side → SurfaceRef → Side

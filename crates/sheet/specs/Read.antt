@@ -1,10 +1,10 @@
 -- What a sheet text says: document 01's refusals 1, 2 and 3, and the description. Definitions only.
 use Prim.Native.Nat.{ℕ, _+_}
 use Prim.Native.Char.{code}
-use mathlib.Core.Bool.{Bool, true, false, _&&_, _||_, cond}
+use mathlib.Core.Bool.{Bool, true, _&&_, cond}
 use mathlib.Core.List.{List, [], _∷_}
 use lib.Dec.{ltb, eqb}
-use lib.ListN.{length, replicate}
+use lib.ListN.{length}
 use lib.Seq.{sets}
 use Rattle.mechanism.specs.declared.part.OutlineSeg.{OutlineSeg}
 use Rattle.mechanism.specs.declared.Problem.{Problem}
@@ -15,11 +15,12 @@ use Rattle.text.specs.Pieces.{split, fieldsOf}
 use Rattle.text.specs.Records.{recordOf}
 use Rattle.text.specs.declared.records.Record.{Record}
 use Rattle.sheet.specs.declared.Sheet.{Sheet}
+use Rattle.sheet.specs.declared.grammar.Standing.{Standing}
 use Rattle.sheet.specs.declared.limits.Tally.{Tally}
 use Rattle.sheet.specs.declared.draft.Draft.{Draft}
-use Rattle.sheet.specs.Grammar.{start, placeOf, follows, kindOf, mayEnd}
-use Rattle.sheet.specs.Limits.{noLines, counted, withinLimits}
-use Rattle.sheet.specs.Draft.{noSeg, noDraft, put, edgeOf}
+use Rattle.sheet.specs.Grammar.{kindOf, noLine, after, follows, mayEnd}
+use Rattle.sheet.specs.Limits.{noTally, counted, withinLimits}
+use Rattle.sheet.specs.Draft.{noOutlines, noDraft, put, edgeOf}
 
 -- ---- lines
 -- the records of a text, or the place of the first line that cannot stand where it does
@@ -35,13 +36,12 @@ then r (whole rs) = whole (r ∷ rs)
 abbrev pub lineOf : List ℕ → Record
 lineOf l = recordOf (fieldsOf l)
 
--- The pieces that newlines part, from piece n on; `headed` says whether M was read. The last piece is no line, and is empty where the text is well formed:
--- its number is the place of a line without its newline, and of a missing M or G.
-unfoldable pub lines : Bool → ℕ → ℕ → List (List ℕ) → Lines
-lines headed stage n [] = stuck n
-lines headed stage n (l ∷ []) = cond (mayEnd (length l) headed stage) (whole []) (stuck n)
-lines headed stage n (l ∷ (m ∷ ls)) =
-    cond (follows stage (lineOf l)) (then (lineOf l) (lines (headed || eqb (kindOf (lineOf l)) (code "M")) (placeOf (lineOf l) .next) (n + 1) (m ∷ ls))) (stuck n)
+-- The pieces that newlines part, from piece n on. The last piece is no line, and is empty where the text is well formed: its number is the place of a line
+-- without its newline, and of a missing M or G.
+unfoldable pub lines : Standing → ℕ → List (List ℕ) → Lines
+lines s n [] = stuck n
+lines s n (l ∷ []) = cond (mayEnd (length l) s) (whole []) (stuck n)
+lines s n (l ∷ (m ∷ ls)) = cond (follows s (lineOf l)) (then (lineOf l) (lines (after s (lineOf l)) (n + 1) (m ∷ ls))) (stuck n)
 
 -- ---- the description of lines
 -- no line passes a limit
@@ -57,9 +57,6 @@ drafted t d (r ∷ rs) = drafted (counted t r) (put t d r) rs
 unfoldable pub edges : List Record → List OutlineSeg
 edges [] = []
 edges (r ∷ rs) = cond (eqb (kindOf r) (code "L")) (edgeOf r ∷ edges rs) (edges rs)
-
-abbrev pub noOutlines : List OutlineSeg
-noOutlines = replicate 384 noSeg
 
 -- ---- the sheet
 unfoldable pub accepted : Tally → Draft → List OutlineSeg → Sheet
@@ -77,7 +74,7 @@ accepted t d l = record {
 
 -- a refusal comes with a blank description, margin 0 and no entries
 abbrev blank : Sheet
-blank = accepted noLines noDraft noOutlines
+blank = accepted noTally noDraft noOutlines
 
 unfoldable pub refused : Problem → Sheet
 refused p = record { checked = Refused p; mechanism = blank .mechanism; margin = blank .margin; entries = blank .entries }
@@ -88,10 +85,10 @@ ended fit n good s = cond fit (cond good s (refused LimitPassed)) (refused (Line
 
 abbrev pub judged : Lines → Sheet
 judged (stuck n) = refused (LineNotRead n)
-judged (whole rs) = cond (allWithin noLines rs) (accepted (foldOf counted noLines rs) (drafted noLines noDraft rs) (sets noOutlines 0 (edges rs))) (refused LimitPassed)
+judged (whole rs) = cond (allWithin noTally rs) (accepted (foldOf counted noTally rs) (drafted noTally noDraft rs) (sets noOutlines 0 (edges rs))) (refused LimitPassed)
 
 unfoldable pub sheetOfLines : List ℕ → Sheet
-sheetOfLines text = judged (lines false start 1 (split (code "\n") text))
+sheetOfLines text = judged (lines noLine 1 (split (code "\n") text))
 
 -- what a text says
 unfoldable pub sheetOf : List ℕ → Sheet

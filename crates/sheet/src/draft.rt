@@ -17,7 +17,7 @@ use mechanism::pose::Entry;
 use text::records::Record;
 ghost use mathlib.Core.Path.{_≡_};
 ghost use Prim.Native.Nat.{_-_, _<_, _≤_};
-ghost use Rattle.sheet.specs.Draft.{noPart, noSeg, noSurface, newPair, noEntries, noDraft, drawnPart, grown, withMargin, putBody, putPart, putSeg, putPair, putA, putB, putEntry, put, Room, edgeOf};
+ghost use Rattle.sheet.specs.Draft.{noPart, noSeg, noOutlines, noSurface, newPair, noEntries, noDraft, drawnPart, grown, withMargin, putBody, putPart, putSeg, putPair, putA, putB, putEntry, put, Room, edgeOf};
 
 // The description but for the outlines' segments, which are stored where the lines are read.
 pub(crate) struct Draft {
@@ -40,13 +40,20 @@ fn no_part() -> Part
     }
 }
 
-pub(crate) fn no_seg() -> OutlineSeg
+fn no_seg() -> OutlineSeg
     ensures { λ r. ⌜ r ≡ noSeg ⌝ }
 {
     let o = Point { x: 0.0, y: 0.0 };
     OutlineSeg {
         seg: Seg::Line { a: o, b: o },
     }
+}
+
+pub(crate) fn no_outlines() -> [OutlineSeg; 384]
+    ensures { λ r. ⌜ r ≡ noOutlines ⌝ }
+{
+    let g = no_seg();
+    [g; 384]
 }
 
 fn no_surface() -> Surface

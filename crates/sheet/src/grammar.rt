@@ -1,7 +1,22 @@
 // The order of lines.
 use text::records::Record;
 ghost use mathlib.Core.Path.{_≡_};
-ghost use Rattle.sheet.specs.Grammar.{may, placeOf, follows, kindOf, mayEnd};
+ghost use Rattle.sheet.specs.Grammar.{may, placeOf, follows, kindOf, noLine, after, mayEnd};
+
+// How far a text has come: the stage of its last line, and whether M was read.
+pub(crate) struct Standing {
+    stage: u8,
+    headed: bool,
+}
+
+pub(crate) fn no_line() -> Standing
+    ensures { λ s. ⌜ s ≡ noLine ⌝ }
+{
+    Standing {
+        stage: 0,
+        headed: false,
+    }
+}
 
 // Where a record may stand: after the stages from low to high; and the stage that it leads to.
 pub(crate) struct Place {
@@ -37,18 +52,11 @@ fn place_of(r: Record) -> Place
     }
 }
 
-pub(crate) fn may_follow(stage: u8, r: Record) -> bool
-    ensures { λ b. ⌜ b ≡ follows stage r ⌝ }
+pub(crate) fn may_follow(s: Standing, r: Record) -> bool
+    ensures { λ b. ⌜ b ≡ follows s r ⌝ }
 {
     let p = place_of(r);
-    (p.low <= stage) & (stage <= p.high)
-}
-
-pub(crate) fn stage_after(r: Record) -> u8
-    ensures { λ s. ⌜ s ≡ placeOf r .next ⌝ }
-{
-    let p = place_of(r);
-    p.next
+    (p.low <= s.stage) & (s.stage <= p.high)
 }
 
 // The letter of a record's kind; A lines are of L's.
@@ -73,9 +81,21 @@ pub(crate) fn kind_of(r: Record) -> u8
     }
 }
 
-// A text may end after a newline, once M and G were read; `left` is how many bytes stand after the last newline.
-pub(crate) fn may_end(left: usize, headed: bool, stage: u8) -> bool
-    ensures { λ b. ⌜ b ≡ mayEnd left headed stage ⌝ }
+// The standing with one line more.
+pub(crate) fn after(s: Standing, r: Record) -> Standing
+    ensures { λ u. ⌜ u ≡ after s r ⌝ }
 {
-    (left == 0) & (headed & (stage == 5))
+    let p = place_of(r);
+    let kind = kind_of(r);
+    Standing {
+        stage: p.next,
+        headed: s.headed | (kind == b'M'),
+    }
+}
+
+// A text may end after a newline, once M and G were read; `left` is how many bytes stand after the last newline.
+pub(crate) fn may_end(left: usize, s: Standing) -> bool
+    ensures { λ b. ⌜ b ≡ mayEnd left s ⌝ }
+{
+    (left == 0) & (s.headed & (s.stage == 5))
 }

@@ -67,9 +67,7 @@ fn accept(t: Tally, d: Draft, seg: [OutlineSeg; 384]) -> Sheet
 fn refuse(p: Problem) -> Sheet
     ensures { λ r. ⌜ r ≡ refused p ⌝ }
 {
-    let g = draft::no_seg();
-    let seg = [g; 384];
-    let s = accept(limits::no_lines(), draft::no_draft(), seg);
+    let s = accept(limits::no_tally(), draft::no_draft(), draft::no_outlines());
     let mechanism = s.mechanism;
     let entries = s.entries;
     Sheet {
@@ -98,29 +96,25 @@ fn read_lines(text: &[u8]) -> Sheet
     requires { ⌜ length (now text) ≤ 65536 ⌝ }
     ensures { λ r. ⌜ r ≡ sheetOfLines (now (text .entry)) ⌝ }
 {
-    let g = draft::no_seg();
-    let mut seg = [g; 384];
+    let mut seg = draft::no_outlines();
     let mut made = draft::no_draft();
-    let mut tally = limits::no_lines();
+    let mut tally = limits::no_tally();
     let mut good = true;
-    let mut headed = false;
-    let mut stage: u8 = 0;
+    let mut stands = grammar::no_line();
     let mut n: usize = 1;
     let mut at: usize = 0;
     loop {
         let e = text::fields::find(text, at, b'\n');
         let line = &text[at..e];
         if e == text.len() {
-            let whole = grammar::may_end(line.len(), headed, stage);
-            return end(whole, n, good, tally, made, seg);
+            let fit = grammar::may_end(line.len(), stands);
+            return end(fit, n, good, tally, made, seg);
         }
         let r = text::records::record_of(line);
-        if !grammar::may_follow(stage, r) {
+        if !grammar::may_follow(stands, r) {
             return refuse(Problem::LineNotRead { line: n });
         }
-        let kind = grammar::kind_of(r);
-        headed = headed | (kind == b'M');
-        stage = grammar::stage_after(r);
+        stands = grammar::after(stands, r);
         n += 1;
         at = e + 1;
         if good {
@@ -129,7 +123,7 @@ fn read_lines(text: &[u8]) -> Sheet
             good = limits::within(tally);
             if good {
                 made = draft::put(made, t, r);
-                if kind == b'L' {
+                if grammar::kind_of(r) == b'L' {
                     let i = t.segs;
                     seg[i] = draft::edge_of(r);
                 }

@@ -3,7 +3,7 @@ use mechanism::part::SurfaceRef;
 use text::records::Record;
 ghost use mathlib.Core.Path.{_≡_};
 ghost use Prim.Native.Nat.{_-_, _≤_};
-ghost use Rattle.sheet.specs.Limits.{Bounds, Narrow, noSide, noLines, moreSide, withCoords, plusBody, plusPart, plusSeg, plusPair, plusA, plusB, counted, sideWithin, withinLimits};
+ghost use Rattle.sheet.specs.Limits.{Bounds, Narrow, noSide, noTally, moreSide, withCoords, plusBody, plusPart, plusSeg, plusPair, plusA, plusB, counted, sideWithin, withinLimits};
 
 // One side of the last pair: its S lines, and the segments of its ranges.
 pub(crate) struct Side {
@@ -29,8 +29,8 @@ fn no_side() -> Side
     Side { ranges: 0, segs: 0 }
 }
 
-pub(crate) fn no_lines() -> Tally
-    ensures { λ r. ⌜ r ≡ noLines ⌝ }
+pub(crate) fn no_tally() -> Tally
+    ensures { λ r. ⌜ r ≡ noTally ⌝ }
 {
     Tally {
         coords: 0,

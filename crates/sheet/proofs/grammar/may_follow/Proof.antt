@@ -6,8 +6,7 @@ place-of-requires : tie.Need-place-of-requires
 place-of-requires c κs = search needs
 
 returns : tie.Need-returns
-returns c =
-    simp (c .before .before .place-of .ensures)
+returns c = simp (c .before .before .before .before .place-of .ensures)
 
 pub may-follow-spec : {M : Type 1} → statement M
 may-follow-spec = tie.close (tie.spec place-of-requires returns)

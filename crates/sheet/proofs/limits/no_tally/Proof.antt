@@ -1,6 +1,6 @@
 use borrow.Author.Needs.{needs}
-use Rattle.sheet.proofs.limits.no_lines.Statement.{statement}
-use Rattle.sheet.proofs.limits.no_lines.Tie as tie
+use Rattle.sheet.proofs.limits.no_tally.Statement.{statement}
+use Rattle.sheet.proofs.limits.no_tally.Tie as tie
 
 no-side-requires : tie.Need-no-side-requires
 no-side-requires c κs = search needs
@@ -12,5 +12,5 @@ returns : tie.Need-returns
 returns c =
     simp (c .no-side2 .ensures, c .before .no-side .ensures)
 
-pub no-lines-spec : {M : Type 1} → statement M
-no-lines-spec = tie.close (tie.spec no-side-requires no-side-requires-2 returns)
+pub no-tally-spec : {M : Type 1} → statement M
+no-tally-spec = tie.close (tie.spec no-side-requires no-side-requires-2 returns)
