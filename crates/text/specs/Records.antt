@@ -45,11 +45,12 @@ pub record Form : Type 0 where
 abbrev form : String → (List (List ℕ) → Record) → Form
 form s m = record { shape = bytes s; make = m }
 
-abbrev body : (List (List ℕ) → Joint) → List (List ℕ) → Record
-body m fs = Joined (record { parent = numberAt fs 2; joint = m fs })
+-- a J line hangs a body, a P line draws a part
+abbrev pub bodyOf : List (List ℕ) → Joint → Record
+bodyOf fs j = Joined (record { parent = numberAt fs 2; joint = j })
 
-abbrev part : (List (List ℕ) → Sweep) → List (List ℕ) → Record
-part m fs = Drawn (numberAt fs 1) (roleOf (letterAt fs 2)) (m fs)
+abbrev pub partOf : List (List ℕ) → Sweep → Record
+partOf fs s = Drawn (numberAt fs 1) (roleOf (letterAt fs 2)) s
 
 abbrev pub ends : List Form
 ends =
@@ -77,17 +78,17 @@ outlines =
 
 abbrev pub parts : List Form
 parts =
-    form "PnrEff" (part (λ fs. Extruded (realAt fs 4) (realAt fs 5)))
-    ∷ form "PnrRf" (part (λ fs. Revolved (realAt fs 4)))
-    ∷ form "PnrMf" (part (λ fs. Milled (realAt fs 4)))
-    ∷ form "PnrOf" (part (λ fs. Oval (realAt fs 4)))
+    form "PnrEff" (λ fs. partOf fs (Extruded (realAt fs 4) (realAt fs 5)))
+    ∷ form "PnrRf" (λ fs. partOf fs (Revolved (realAt fs 4)))
+    ∷ form "PnrMf" (λ fs. partOf fs (Milled (realAt fs 4)))
+    ∷ form "PnrOf" (λ fs. partOf fs (Oval (realAt fs 4)))
     ∷ outlines
 
 abbrev pub joints : List Form
 joints =
-    form "JGn" (body (λ fs. Ground))
-    ∷ form "JRnnff" (body (λ fs. Revolute (pointAt fs 4) (numberAt fs 3)))
-    ∷ form "JPnnffff" (body (λ fs. Prismatic (pointAt fs 4) (dirAt fs 6) (numberAt fs 3)))
+    form "JGn" (λ fs. bodyOf fs Ground)
+    ∷ form "JRnnff" (λ fs. bodyOf fs (Revolute (pointAt fs 4) (numberAt fs 3)))
+    ∷ form "JPnnffff" (λ fs. bodyOf fs (Prismatic (pointAt fs 4) (dirAt fs 6) (numberAt fs 3)))
     ∷ parts
 
 abbrev pub forms : List Form

@@ -16,7 +16,7 @@ use mechanism::pose::Entry;
 ghost use mathlib.Core.Path.{_≡_};
 ghost use Prim.Native.Nat.{_<_};
 ghost use Rattle.text.specs.Pieces.{fieldsOf};
-ghost use Rattle.text.specs.Records.{pointAt, dirAt, rangeAt, roleOf, ends, sides, pairs, outlines, parts, joints, firstFit, recordOf};
+ghost use Rattle.text.specs.Records.{pointAt, dirAt, rangeAt, roleOf, bodyOf, partOf, ends, sides, pairs, outlines, parts, joints, firstFit, recordOf};
 
 pub enum Record {
     // M
@@ -152,48 +152,57 @@ fn outline_record(line: &[u8]) -> Record
     pair_record(line)
 }
 
+// The part of a P line.
+fn part_of(line: &[u8], sweep: Sweep) -> Record
+    ensures { λ r. ⌜ r ≡ partOf (fieldsOf (now (line .entry))) sweep ⌝ }
+{
+    Record::Drawn {
+        body: number_at(line, 1),
+        role: role_of(letter_at(line, 2)),
+        sweep,
+    }
+}
+
 // The forms of P, then those after it.
 fn part_record(line: &[u8]) -> Record
     ensures { λ r. ⌜ r ≡ firstFit parts (fieldsOf (now (line .entry))) ⌝ }
 {
     if fits(line, b"PnrEff") {
-        return Record::Drawn {
-            body: number_at(line, 1),
-            role: role_of(letter_at(line, 2)),
-            sweep: Sweep::Extruded {
-                width: real_at(line, 4),
-                across: real_at(line, 5),
-            },
+        let sweep = Sweep::Extruded {
+            width: real_at(line, 4),
+            across: real_at(line, 5),
         };
+        return part_of(line, sweep);
     }
     if fits(line, b"PnrRf") {
-        return Record::Drawn {
-            body: number_at(line, 1),
-            role: role_of(letter_at(line, 2)),
-            sweep: Sweep::Revolved {
-                axis: real_at(line, 4),
-            },
+        let sweep = Sweep::Revolved {
+            axis: real_at(line, 4),
         };
+        return part_of(line, sweep);
     }
     if fits(line, b"PnrMf") {
-        return Record::Drawn {
-            body: number_at(line, 1),
-            role: role_of(letter_at(line, 2)),
-            sweep: Sweep::Milled {
-                width: real_at(line, 4),
-            },
+        let sweep = Sweep::Milled {
+            width: real_at(line, 4),
         };
+        return part_of(line, sweep);
     }
     if fits(line, b"PnrOf") {
-        return Record::Drawn {
-            body: number_at(line, 1),
-            role: role_of(letter_at(line, 2)),
-            sweep: Sweep::Oval {
-                width: real_at(line, 4),
-            },
+        let sweep = Sweep::Oval {
+            width: real_at(line, 4),
         };
+        return part_of(line, sweep);
     }
     outline_record(line)
+}
+
+// The body of a J line.
+fn body_of(line: &[u8], joint: Joint) -> Record
+    ensures { λ r. ⌜ r ≡ bodyOf (fieldsOf (now (line .entry))) joint ⌝ }
+{
+    Record::Joined(Body {
+        parent: number_at(line, 2),
+        joint,
+    })
 }
 
 // The forms of J, then those after it.
@@ -201,29 +210,23 @@ fn joint_record(line: &[u8]) -> Record
     ensures { λ r. ⌜ r ≡ firstFit joints (fieldsOf (now (line .entry))) ⌝ }
 {
     if fits(line, b"JGn") {
-        return Record::Joined(Body {
-            parent: number_at(line, 2),
-            joint: Joint::Ground,
-        });
+        let joint = Joint::Ground;
+        return body_of(line, joint);
     }
     if fits(line, b"JRnnff") {
-        return Record::Joined(Body {
-            parent: number_at(line, 2),
-            joint: Joint::Revolute {
-                pivot: point_at(line, 4),
-                coord: number_at(line, 3),
-            },
-        });
+        let joint = Joint::Revolute {
+            pivot: point_at(line, 4),
+            coord: number_at(line, 3),
+        };
+        return body_of(line, joint);
     }
     if fits(line, b"JPnnffff") {
-        return Record::Joined(Body {
-            parent: number_at(line, 2),
-            joint: Joint::Prismatic {
-                origin: point_at(line, 4),
-                axis: dir_at(line, 6),
-                coord: number_at(line, 3),
-            },
-        });
+        let joint = Joint::Prismatic {
+            origin: point_at(line, 4),
+            axis: dir_at(line, 6),
+            coord: number_at(line, 3),
+        };
+        return body_of(line, joint);
     }
     part_record(line)
 }
