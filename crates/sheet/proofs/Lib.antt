@@ -1,0 +1,3 @@
+pub mod Counting
+pub mod Reading
+pub mod Worked

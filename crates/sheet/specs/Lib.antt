@@ -1,0 +1,4 @@
+pub mod Grammar
+pub mod Limits
+pub mod Draft
+pub mod Read

@@ -1,0 +1,5 @@
+pub mod Bytes
+pub mod Lists
+pub mod Pieces
+pub mod Fields
+pub mod Records
