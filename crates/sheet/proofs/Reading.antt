@@ -11,7 +11,11 @@ use lib.ListN.{length, take, drop, set}
 use lib.Seq.{sets}
 use Rattle.laws.proofs.Choice.{cond-yes, cond-no}
 use Rattle.mechanism.specs.declared.part.OutlineSeg.{OutlineSeg}
+use Rattle.mechanism.specs.declared.Problem.{Problem}
 use Rattle.mechanism.specs.declared.Problem.the-variants.{LineNotRead, LimitPassed}
+use Rattle.mechanism.specs.declared.Checked.{Checked}
+use Rattle.mechanism.specs.declared.Checked.the-variants.{Accepted, Refused}
+use Rattle.mechanism.specs.Check.{checkOf}
 use Rattle.text.specs.Lists.{foldOf}
 use Rattle.text.specs.Pieces.{split, pieceEnd}
 use Rattle.text.proofs.Pieces.{Piece, piece, at-least-one}
@@ -24,7 +28,7 @@ use Rattle.sheet.specs.declared.draft.Draft.{Draft}
 use Rattle.sheet.specs.Grammar.{kindOf, noLine, after, follows, mayEnd}
 use Rattle.sheet.specs.Limits.{Bounds, noTally, counted, withinLimits}
 use Rattle.sheet.specs.Draft.{noOutlines, noDraft, put, edgeOf}
-use Rattle.sheet.specs.Read.{Lines, stuck, whole, then, lineOf, lines, allWithin, drafted, edges, accepted, refused, ended, judged, sheetOfLines}
+use Rattle.sheet.specs.Read.{Lines, stuck, whole, then, lineOf, lines, allWithin, drafted, edges, accepted, refused, ended, judged, sheetOfLines, writtenIn, entriesChecked, sheetChecked, keptIf, sheetOf}
 use Rattle.sheet.proofs.Counting.{bounds, no-tally-bounds}
 
 abbrev L : ℕ
@@ -201,3 +205,24 @@ module _ {text : List ℕ} {seg : List OutlineSeg} {made : Draft} {tally : Tally
 
           pub reads-edge : kindOf r ≡ L → {x : OutlineSeg} → x ≡ edgeOf r → Reading text (set seg (tally .segs) x) made' tally' good' s (n + 1) (e + 1)
           reads-edge z ex = rw ex (goes (set seg (tally .segs) (edgeOf r)) (put-edge tally seg r z))
+
+-- ---- the checks of what is written
+pub at-text : (s : Sheet) {p : Problem} → s .checked ≡ Refused p → sheetChecked s ≡ Refused p
+unfolding sheetChecked
+at-text s e = simp e
+
+pub at-description : (s : Sheet) {p : Problem} → s .checked ≡ Accepted → checkOf (s .mechanism) ≡ Refused p → sheetChecked s ≡ Refused p
+unfolding sheetChecked
+at-description s e f = simp (e, f)
+
+pub at-entries : (s : Sheet) → s .checked ≡ Accepted → checkOf (s .mechanism) ≡ Accepted → sheetChecked s ≡ entriesChecked (s .entries .count) (s .mechanism .bodies .coords)
+unfolding sheetChecked
+at-entries s e f = simp (e, f)
+
+pub kept : (text : List ℕ) {s : Sheet} {k : Checked} → s ≡ writtenIn text → k ≡ sheetChecked s → k ≡ Accepted → s ≡ sheetOf text
+unfolding sheetOf
+kept text e f g = e ∙ sym (ap (λ x. keptIf x (writtenIn text)) (ap sheetChecked (sym e) ∙ sym f ∙ g))
+
+pub not-kept : (text : List ℕ) {s : Sheet} {k : Checked} {p : Problem} → s ≡ writtenIn text → k ≡ sheetChecked s → k ≡ Refused p → refused p ≡ sheetOf text
+unfolding sheetOf
+not-kept text e f g = sym (ap (λ x. keptIf x (writtenIn text)) (ap sheetChecked (sym e) ∙ sym f ∙ g))

@@ -26,7 +26,7 @@ use Rattle.text.specs.Fields.{written, decimal, numberOf, pattern, floatOf, let
 use Rattle.text.specs.Records.{firstFit}
 use Rattle.sheet.specs.Limits.{counted, withinLimits}
 use Rattle.sheet.specs.Draft.{noBody, noPart, noSeg, noRange, newPair, noEntry, noDraft, put}
-use Rattle.sheet.specs.Read.{lines, allWithin, drafted, edges, accepted, refused, sheetOfLines, sheetOf}
+use Rattle.sheet.specs.Read.{lines, allWithin, drafted, edges, accepted, refused, sheetOfLines, writtenIn}
 
 -- each line with its newline
 abbrev text : List String → List ℕ
@@ -36,42 +36,42 @@ text (l ∷ ls) = bytes l ++ (10 ∷ text ls)
 -- ---- texts that are refused
 pub record RefusedTexts : Type 0 where
   -- an empty text: M is missing, at the line after the last
-  pub empty : sheetOf [] ≡ refused (LineNotRead 1)
+  pub empty : writtenIn [] ≡ refused (LineNotRead 1)
   -- G alone
-  pub only-margin : sheetOf (text ("G,3ff0000000000000" ∷ [])) ≡ refused (LineNotRead 2)
+  pub only-margin : writtenIn (text ("G,3ff0000000000000" ∷ [])) ≡ refused (LineNotRead 2)
   -- M alone
-  pub no-margin : sheetOf (text ("M,1" ∷ [])) ≡ refused (LineNotRead 2)
+  pub no-margin : writtenIn (text ("M,1" ∷ [])) ≡ refused (LineNotRead 2)
   -- J before M: then M is out of order
-  pub joint-first : sheetOf (text ("J,G,0" ∷ "M,1" ∷ "G,3ff0000000000000" ∷ [])) ≡ refused (LineNotRead 2)
+  pub joint-first : writtenIn (text ("J,G,0" ∷ "M,1" ∷ "G,3ff0000000000000" ∷ [])) ≡ refused (LineNotRead 2)
   -- K, then P
-  pub pair-first : sheetOf (text ("M,1" ∷ "K,F" ∷ "P,0,S,M,3ff0000000000000" ∷ "G,3ff0000000000000" ∷ [])) ≡ refused (LineNotRead 3)
+  pub pair-first : writtenIn (text ("M,1" ∷ "K,F" ∷ "P,0,S,M,3ff0000000000000" ∷ "G,3ff0000000000000" ∷ [])) ≡ refused (LineNotRead 3)
   -- S,B, then S,A
-  pub b-first : sheetOf (text ("M,1" ∷ "K,F" ∷ "S,B,0,0,1" ∷ "S,A,0,0,1" ∷ "G,3ff0000000000000" ∷ [])) ≡ refused (LineNotRead 4)
+  pub b-first : writtenIn (text ("M,1" ∷ "K,F" ∷ "S,B,0,0,1" ∷ "S,A,0,0,1" ∷ "G,3ff0000000000000" ∷ [])) ≡ refused (LineNotRead 4)
   -- T before G
-  pub entry-first : sheetOf (text ("M,1" ∷ "T,0000000000000000,0000000000000000,3ff0000000000000" ∷ "G,3ff0000000000000" ∷ [])) ≡ refused (LineNotRead 2)
+  pub entry-first : writtenIn (text ("M,1" ∷ "T,0000000000000000,0000000000000000,3ff0000000000000" ∷ "G,3ff0000000000000" ∷ [])) ≡ refused (LineNotRead 2)
   -- a second G
-  pub two-margins : sheetOf (text ("M,1" ∷ "G,3ff0000000000000" ∷ "G,3ff0000000000000" ∷ [])) ≡ refused (LineNotRead 3)
+  pub two-margins : writtenIn (text ("M,1" ∷ "G,3ff0000000000000" ∷ "G,3ff0000000000000" ∷ [])) ≡ refused (LineNotRead 3)
   -- L without its P
-  pub loose-segment : sheetOf (text ("M,1" ∷ "L,0000000000000000,0000000000000000,0000000000000000,0000000000000000" ∷ "G,3ff0000000000000" ∷ [])) ≡ refused (LineNotRead 2)
+  pub loose-segment : writtenIn (text ("M,1" ∷ "L,0000000000000000,0000000000000000,0000000000000000,0000000000000000" ∷ "G,3ff0000000000000" ∷ [])) ≡ refused (LineNotRead 2)
   -- a last line without its newline
-  pub no-newline : sheetOf (bytes "M,1\nG,3ff0000000000000") ≡ refused (LineNotRead 2)
+  pub no-newline : writtenIn (bytes "M,1\nG,3ff0000000000000") ≡ refused (LineNotRead 2)
   -- a carriage return
-  pub carriage-return : sheetOf (text ("M,1\r" ∷ "G,3ff0000000000000" ∷ [])) ≡ refused (LineNotRead 1)
+  pub carriage-return : writtenIn (text ("M,1\r" ∷ "G,3ff0000000000000" ∷ [])) ≡ refused (LineNotRead 1)
   -- 00 is no whole number
-  pub two-zeros : sheetOf (text ("M,00" ∷ "G,3ff0000000000000" ∷ [])) ≡ refused (LineNotRead 1)
+  pub two-zeros : writtenIn (text ("M,00" ∷ "G,3ff0000000000000" ∷ [])) ≡ refused (LineNotRead 1)
   -- 65,536 is no whole number
-  pub too-large : sheetOf (text ("M,65536" ∷ "G,3ff0000000000000" ∷ [])) ≡ refused (LineNotRead 1)
+  pub too-large : writtenIn (text ("M,65536" ∷ "G,3ff0000000000000" ∷ [])) ≡ refused (LineNotRead 1)
   -- a capital hexadecimal digit
-  pub capital-digit : sheetOf (text ("M,1" ∷ "G,3FF0000000000000" ∷ [])) ≡ refused (LineNotRead 2)
+  pub capital-digit : writtenIn (text ("M,1" ∷ "G,3FF0000000000000" ∷ [])) ≡ refused (LineNotRead 2)
   -- 65,535 is one, and too many coordinates
-  pub too-many-coordinates : sheetOf (text ("M,65535" ∷ "G,3ff0000000000000" ∷ [])) ≡ refused LimitPassed
+  pub too-many-coordinates : writtenIn (text ("M,65535" ∷ "G,3ff0000000000000" ∷ [])) ≡ refused LimitPassed
   -- a side of thirteen segments, of a part that does not exist
-  pub thirteen-segments : sheetOf (text ("M,1" ∷ "K,F" ∷ "S,A,9,0,13" ∷ "G,3ff0000000000000" ∷ [])) ≡ refused LimitPassed
+  pub thirteen-segments : writtenIn (text ("M,1" ∷ "K,F" ∷ "S,A,9,0,13" ∷ "G,3ff0000000000000" ∷ [])) ≡ refused LimitPassed
   -- 2 comes before 3
-  pub order-first : sheetOf (text ("M,17" ∷ "G,3ff0000000000000" ∷ "G,3ff0000000000000" ∷ [])) ≡ refused (LineNotRead 3)
+  pub order-first : writtenIn (text ("M,17" ∷ "G,3ff0000000000000" ∷ "G,3ff0000000000000" ∷ [])) ≡ refused (LineNotRead 3)
 
 pub refused-texts : RefusedTexts
-unfolding allOf foldOf onto split written decimal numberOf pattern floatOf letterOf isKind fitsForm firstFit counted withinLimits noDraft put lines allWithin drafted edges sheetOfLines sheetOf
+unfolding allOf foldOf onto split written decimal numberOf pattern floatOf letterOf isKind fitsForm firstFit counted withinLimits noDraft put lines allWithin drafted edges sheetOfLines writtenIn
 refused-texts = record {
   empty = refl;
   only-margin = refl;
@@ -96,8 +96,8 @@ refused-texts = record {
 abbrev seventeen : List ℕ
 seventeen = text ("M,1" ∷ "G,3ff0000000000000" ∷ replicate 17 "T,0000000000000000,0000000000000000,3ff0000000000000")
 
-pub seventeen-entries : (sheetOf seventeen .checked ≡ Accepted) × (sheetOf seventeen .entries .count ≡ 17)
-unfolding allOf foldOf onto split written decimal numberOf pattern floatOf letterOf isKind fitsForm firstFit counted withinLimits noDraft put lines allWithin drafted edges accepted sheetOfLines sheetOf
+pub seventeen-entries : (writtenIn seventeen .checked ≡ Accepted) × (writtenIn seventeen .entries .count ≡ 17)
+unfolding allOf foldOf onto split written decimal numberOf pattern floatOf letterOf isKind fitsForm firstFit counted withinLimits noDraft put lines allWithin drafted edges accepted sheetOfLines writtenIn
 seventeen-entries = (refl, refl)
 
 -- ---- the sheet of document 01
@@ -135,7 +135,7 @@ paper =
     ∷ "T,3ff8000000000000,0000000000000000,3ff0000000000000"
     ∷ [])
 
-pub paper-says : sheetOf paper ≡ record {
+pub paper-says : writtenIn paper ≡ record {
   checked = Accepted;
   mechanism = record {
     bodies = record { coords = 1; count = 1; body = record { parent = 0; joint = Prismatic (at zeroF zeroF) (record { x = zeroF; y = oneF }) 0 } ∷ replicate 14 noBody };
@@ -156,5 +156,5 @@ pub paper-says : sheetOf paper ≡ record {
   margin = oneF;
   entries = record { count = 1; entry = record { value = ofBits binary64 0x3ff8000000000000; sine = zeroF; cosine = oneF } ∷ replicate 15 noEntry };
 }
-unfolding allOf foldOf onto split written decimal numberOf pattern floatOf letterOf isKind fitsForm firstFit counted withinLimits noDraft put lines allWithin drafted edges accepted sheetOfLines sheetOf dirOf rootOf ofBits add mul div lt
+unfolding allOf foldOf onto split written decimal numberOf pattern floatOf letterOf isKind fitsForm firstFit counted withinLimits noDraft put lines allWithin drafted edges accepted sheetOfLines writtenIn dirOf rootOf ofBits add mul div lt
 paper-says = refl

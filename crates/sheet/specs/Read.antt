@@ -1,15 +1,17 @@
--- What a sheet text says: document 01's refusals 1, 2 and 3, and the description. Definitions only.
+-- What a sheet text says: the description, the margin and the entries of the pose, or document 01's refusals 1 to 11. Definitions only.
 use Prim.Native.Nat.{ℕ, _+_}
 use Prim.Native.Char.{code}
-use mathlib.Core.Bool.{Bool, true, _&&_, cond}
+use mathlib.Core.Bool.{Bool, true, not, _&&_, cond}
 use mathlib.Core.List.{List, [], _∷_}
 use lib.Dec.{ltb, eqb}
 use lib.ListN.{length}
 use lib.Seq.{sets}
 use Rattle.mechanism.specs.declared.part.OutlineSeg.{OutlineSeg}
 use Rattle.mechanism.specs.declared.Problem.{Problem}
-use Rattle.mechanism.specs.declared.Problem.the-variants.{TextTooLong, LineNotRead, LimitPassed}
+use Rattle.mechanism.specs.declared.Problem.the-variants.{TextTooLong, LineNotRead, LimitPassed, PoseNotMatching}
+use Rattle.mechanism.specs.declared.Checked.{Checked}
 use Rattle.mechanism.specs.declared.Checked.the-variants.{Accepted, Refused}
+use Rattle.mechanism.specs.Check.{andThen, refusedIf, checkOf}
 use Rattle.text.specs.Lists.{foldOf}
 use Rattle.text.specs.Pieces.{split, fieldsOf}
 use Rattle.text.specs.Records.{recordOf}
@@ -90,6 +92,23 @@ judged (whole rs) = cond (allWithin noTally rs) (accepted (foldOf counted noTall
 unfoldable pub sheetOfLines : List ℕ → Sheet
 sheetOfLines text = judged (lines noLine 1 (split (code "\n") text))
 
+-- what a text writes
+unfoldable pub writtenIn : List ℕ → Sheet
+writtenIn text = cond (ltb 65536 (length text)) (refused TextTooLong) (sheetOfLines text)
+
+-- ---- the checks of what is written
+-- 11: not one T line for each coordinate
+abbrev pub entriesChecked : ℕ → ℕ → Checked
+entriesChecked entries coords = refusedIf (not (eqb entries coords)) PoseNotMatching
+
+-- 1 to 3, then the description's 4 to 10, then 11
+unfoldable pub sheetChecked : Sheet → Checked
+sheetChecked s = andThen (s .checked) (andThen (checkOf (s .mechanism)) (entriesChecked (s .entries .count) (s .mechanism .bodies .coords)))
+
+abbrev pub keptIf : Checked → Sheet → Sheet
+keptIf Accepted s = s
+keptIf (Refused p) s = refused p
+
 -- what a text says
 unfoldable pub sheetOf : List ℕ → Sheet
-sheetOf text = cond (ltb 65536 (length text)) (refused TextTooLong) (sheetOfLines text)
+sheetOf text = keptIf (sheetChecked (writtenIn text)) (writtenIn text)

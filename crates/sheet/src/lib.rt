@@ -12,12 +12,13 @@ use mechanism::Outlines;
 use mechanism::Pairs;
 use mechanism::Parts;
 use mechanism::Problem;
+use mechanism::check::check;
 use mechanism::part::OutlineSeg;
 use mechanism::pose::Entry;
 ghost use mathlib.Core.Path.{_≡_};
 ghost use Prim.Native.Nat.{_≤_};
 ghost use lib.ListN.{length};
-ghost use Rattle.sheet.specs.Read.{accepted, refused, ended, sheetOfLines, sheetOf};
+ghost use Rattle.sheet.specs.Read.{accepted, refused, ended, sheetOfLines, writtenIn, entriesChecked, sheetChecked, sheetOf};
 
 // What a text gives for each coordinate, T line by T line. Entries past sixteen are not kept, and a count of seventeen stands for any above sixteen.
 pub struct Entries {
@@ -132,12 +133,52 @@ fn read_lines(text: &[u8]) -> Sheet
     }
 }
 
-// What a sheet text says.
-pub fn read(text: &[u8]) -> Sheet
-    ensures { λ r. ⌜ r ≡ sheetOf (now (text .entry)) ⌝ }
+// What a sheet text writes; 1 to 3.
+fn written(text: &[u8]) -> Sheet
+    ensures { λ r. ⌜ r ≡ writtenIn (now (text .entry)) ⌝ }
 {
     if 65536 < text.len() {
         return refuse(Problem::TextTooLong);
     }
     read_lines(text)
+}
+
+// 11: not one T line for each coordinate.
+fn entries_checked(entries: usize, coords: usize) -> Checked
+    ensures { λ r. ⌜ r ≡ entriesChecked entries coords ⌝ }
+{
+    if entries == coords {
+        return Checked::Accepted;
+    }
+    Checked::Refused(Problem::PoseNotMatching)
+}
+
+// The first refusal that applies to what is written.
+fn sheet_checked(s: Sheet) -> Checked
+    ensures { λ r. ⌜ r ≡ sheetChecked s ⌝ }
+{
+    let c = s.checked;
+    match c {
+        Checked::Refused(p) => Checked::Refused(p),
+        Checked::Accepted => {
+            let m = s.mechanism;
+            let d = check(m);
+            match d {
+                Checked::Refused(p) => Checked::Refused(p),
+                Checked::Accepted => entries_checked(s.entries.count, m.bodies.coords),
+            }
+        }
+    }
+}
+
+// What a sheet text says.
+pub fn read(text: &[u8]) -> Sheet
+    ensures { λ r. ⌜ r ≡ sheetOf (now (text .entry)) ⌝ }
+{
+    let s = written(text);
+    let c = sheet_checked(s);
+    match c {
+        Checked::Accepted => s,
+        Checked::Refused(p) => refuse(p),
+    }
 }
