@@ -1,3 +1,4 @@
 pub mod Counting
 pub mod Reading
+pub mod Description
 pub mod Worked

@@ -3,6 +3,19 @@ use text::records::Record;
 ghost use mathlib.Core.Path.{_≡_};
 ghost use Rattle.sheet.specs.Grammar.{may, placeOf, follows, kindOf, noLine, after, mayEnd};
 
+// The stages of a text, by its last line: none yet; M or J; P, L or A; K or S,A; S,B; G or T.
+const START: u8 = 0;
+
+const BODIES: u8 = 1;
+
+const PARTS: u8 = 2;
+
+const SIDE_A: u8 = 3;
+
+const SIDE_B: u8 = 4;
+
+const POSE: u8 = 5;
+
 // How far a text has come: the stage of its last line, and whether M was read.
 pub(crate) struct Standing {
     stage: u8,
@@ -13,7 +26,7 @@ pub(crate) fn no_line() -> Standing
     ensures { λ s. ⌜ s ≡ noLine ⌝ }
 {
     Standing {
-        stage: 0,
+        stage: START,
         headed: false,
     }
 }
@@ -35,20 +48,21 @@ fn place_of(r: Record) -> Place
     ensures { λ p. ⌜ p ≡ placeOf r ⌝ }
 {
     match r {
-        Record::Coords(_) => may(0, 0, 1),
-        Record::Joined(_) => may(0, 1, 1),
+        Record::Coords(_) => may(START, START, BODIES),
+        Record::Joined(_) => may(START, BODIES, BODIES),
         Record::Drawn {
             body: _,
             role: _,
             sweep: _,
-        } => may(0, 2, 2),
-        Record::Edge(_) => may(2, 2, 2),
-        Record::Paired(_) => may(0, 4, 3),
-        Record::OnA(_) => may(3, 3, 3),
-        Record::OnB(_) => may(3, 4, 4),
-        Record::Margin(_) => may(0, 4, 5),
-        Record::Turned(_) => may(5, 5, 5),
-        Record::Malformed => may(1, 0, 0),
+        } => may(START, PARTS, PARTS),
+        Record::Edge(_) => may(PARTS, PARTS, PARTS),
+        Record::Paired(_) => may(START, SIDE_B, SIDE_A),
+        Record::OnA(_) => may(SIDE_A, SIDE_A, SIDE_A),
+        Record::OnB(_) => may(SIDE_A, SIDE_B, SIDE_B),
+        Record::Margin(_) => may(START, SIDE_B, POSE),
+        Record::Turned(_) => may(POSE, POSE, POSE),
+        // After none.
+        Record::Malformed => may(BODIES, START, START),
     }
 }
 
@@ -97,5 +111,5 @@ pub(crate) fn after(s: Standing, r: Record) -> Standing
 pub(crate) fn may_end(left: usize, s: Standing) -> bool
     ensures { λ b. ⌜ b ≡ mayEnd left s ⌝ }
 {
-    (left == 0) & (s.headed & (s.stage == 5))
+    (left == 0) & (s.headed & (s.stage == POSE))
 }

@@ -22,12 +22,9 @@ new-part-requires c κs = search needs
 
 put-part-requires : tie.Need-put-part-requires
 put-part-requires c κs =
-    let args′ = c .before .before .before .before .args in
-    let r2′ = c .before .before .r2 in
-    let pre′ = c .before .before .before .before .pre in
-    let args = args′ in
-    let r2 = r2′ in
-    let pre = pre′ in
+    let args = c .before .before .before .before .args in
+    let r2 = c .before .before .r2 in
+    let pre = c .before .before .before .before .pre in
     subst (Room (args .t)) (r2 .given .1) pre
 
 enum-told-2 : tie.Need-enum-told-2
@@ -35,10 +32,8 @@ enum-told-2 c = search needs
 
 add-put-seg : tie.Need-add-put-seg
 add-put-seg c =
-    let args′ = c .before .before .before .args in
-    let pre′ = c .before .before .before .pre in
-    let args = args′ in
-    let pre = pre′ in
+    let args = c .before .before .before .args in
+    let pre = c .before .before .before .pre in
     let h = subst (Room (args .t)) (c .before .enum-told2 .given .1) pre in
     omega arith
 
@@ -53,12 +48,9 @@ new-pair-requires c κs = search needs
 
 put-pair-requires : tie.Need-put-pair-requires
 put-pair-requires c κs =
-    let args′ = c .before .before .before .before .args in
-    let r3′ = c .before .before .r3 in
-    let pre′ = c .before .before .before .before .pre in
-    let args = args′ in
-    let r3 = r3′ in
-    let pre = pre′ in
+    let args = c .before .before .before .before .args in
+    let r3 = c .before .before .r3 in
+    let pre = c .before .before .before .before .pre in
     subst (Room (args .t)) (r3 .given .1) pre
 
 enum-known-r-4 : tie.Need-enum-known-r-4
@@ -103,8 +95,7 @@ returns-2 c =
 returns-3 : tie.Need-returns-3
 unfolding put
 returns-3 c =
-    let r2′ = c .before .before .before .r2 in
-    let r2 = r2′ in
+    let r2 = c .before .before .before .r2 in
     let t1 = r2 .given .1 in
     simp (t1, c .put-part .ensures, c .before .new-part .ensures)
 
@@ -117,8 +108,7 @@ returns-4 c =
 returns-5 : tie.Need-returns-5
 unfolding put
 returns-5 c =
-    let r3′ = c .before .before .before .r3 in
-    let r3 = r3′ in
+    let r3 = c .before .before .before .r3 in
     let t1 = r3 .given .1 in
     simp (t1, c .put-pair .ensures, c .before .new-pair .ensures)
 

@@ -19,10 +19,8 @@ put-pair-requires c κs = search needs
 
 returns : tie.Need-returns
 returns c =
-    let grow′ = c .before .before .grow in
-    let last′ = c .before .before .before .before .before .last in
-    let grow = grow′ in
-    let last = last′ in
+    let grow = c .before .before .grow in
+    let last = c .before .before .before .before .before .last in
     simp (c .put-pair .ensures, grow .ensures, last .ensures)
 
 pub put-b-spec : {M : Type 1} → statement M

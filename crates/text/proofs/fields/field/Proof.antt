@@ -20,53 +20,41 @@ find-requires c κs = search needs
 
 sub-result : tie.Need-sub-result Inv-loop μ-loop
 sub-result c =
-    let args′ = c .before .before .before .before .before .args in
-    let loop′ = c .before .before .before .loop in
-    let args = args′ in
-    let loop = loop′ in
+    let args = c .before .before .before .before .before .args in
+    let loop = c .before .before .before .loop in
     let find = c .before .find in
     let p = piece (args .line .now) 44 (loop .at) (find .result) (loop .inv .within) (find .ensures) in
     omega arith
 
 part-result-start : tie.Need-part-result-start Inv-loop μ-loop
 part-result-start c =
-    let args′ = c .before .before .before .before .before .args in
-    let loop′ = c .before .before .before .loop in
-    let args = args′ in
-    let loop = loop′ in
+    let args = c .before .before .before .before .before .args in
+    let loop = c .before .before .before .loop in
     let find = c .before .find in
     let p = piece (args .line .now) 44 (loop .at) (find .result) (loop .inv .within) (find .ensures) in
     omega arith
 
 part-result-end : tie.Need-part-result-end Inv-loop μ-loop
 part-result-end c =
-    let args′ = c .before .before .before .before .before .args in
-    let loop′ = c .before .before .before .loop in
-    let args = args′ in
-    let loop = loop′ in
+    let args = c .before .before .before .before .before .args in
+    let loop = c .before .before .before .loop in
     let find = c .before .find in
     let p = piece (args .line .now) 44 (loop .at) (find .result) (loop .inv .within) (find .ensures) in
     omega arith
 
 returns : tie.Need-returns Inv-loop μ-loop
 returns c =
-    let args′ = c .before .before .before .before .before .before .args in
-    let loop′ = c .before .before .before .before .loop in
-    let find′ = c .before .before .find in
-    let loop-test′ = c .before .before .before .loop-test in
-    let args = args′ in
-    let loop = loop′ in
-    let find = find′ in
-    let loop-test = loop-test′ in
+    let args = c .before .before .before .before .before .before .args in
+    let loop = c .before .before .before .before .loop in
+    let find = c .before .before .find in
+    let loop-test = c .before .before .before .loop-test in
     let p = piece (args .line .now) 44 (loop .at) (find .result) (loop .inv .within) (find .ensures) in
     passes-end (loop .inv) p (loop-test .taken) (c .before .if1 .taken)
 
 add-at : tie.Need-add-at Inv-loop μ-loop
 add-at c =
-    let args′ = c .before .before .before .before .before .args in
-    let loop′ = c .before .before .before .loop in
-    let args = args′ in
-    let loop = loop′ in
+    let args = c .before .before .before .before .before .args in
+    let loop = c .before .before .before .loop in
     let find = c .before .find in
     let p = piece (args .line .now) 44 (loop .at) (find .result) (loop .inv .within) (find .ensures) in
     omega arith
@@ -79,13 +67,10 @@ loop-less c = omega arith
 
 loop-again : tie.Need-loop-again Inv-loop μ-loop
 loop-again c =
-    let args′ = c .before .before .before .before .before .args in
-    let loop′ = c .before .before .before .loop in
-    let loop-test′ = c .before .before .loop-test in
-    let args = args′ in
-    let loop = loop′ in
+    let args = c .before .before .before .before .before .args in
+    let loop = c .before .before .before .loop in
+    let loop-test = c .before .before .loop-test in
     let find = c .before .find in
-    let loop-test = loop-test′ in
     let p = piece (args .line .now) 44 (loop .at) (find .result) (loop .inv .within) (find .ensures) in
     passes (loop .inv) p (loop-test .taken) (c .if1 .left)
 
@@ -94,40 +79,31 @@ find-requires-2 c κs = search needs
 
 sub-result-2 : tie.Need-sub-result-2 Inv-loop μ-loop
 sub-result-2 c =
-    let args′ = c .before .before .before .before .args in
-    let loop′ = c .before .before .loop in
-    let args = args′ in
-    let loop = loop′ in
+    let args = c .before .before .before .before .args in
+    let loop = c .before .before .loop in
     let p = piece (args .line .now) 44 (loop .at) (c .find2 .result) (loop .inv .within) (c .find2 .ensures) in
     omega arith
 
 part-result-start-2 : tie.Need-part-result-start-2 Inv-loop μ-loop
 part-result-start-2 c =
-    let args′ = c .before .before .before .before .args in
-    let loop′ = c .before .before .loop in
-    let args = args′ in
-    let loop = loop′ in
+    let args = c .before .before .before .before .args in
+    let loop = c .before .before .loop in
     let p = piece (args .line .now) 44 (loop .at) (c .find2 .result) (loop .inv .within) (c .find2 .ensures) in
     omega arith
 
 part-result-end-2 : tie.Need-part-result-end-2 Inv-loop μ-loop
 part-result-end-2 c =
-    let args′ = c .before .before .before .before .args in
-    let loop′ = c .before .before .loop in
-    let args = args′ in
-    let loop = loop′ in
+    let args = c .before .before .before .before .args in
+    let loop = c .before .before .loop in
     let p = piece (args .line .now) 44 (loop .at) (c .find2 .result) (loop .inv .within) (c .find2 .ensures) in
     omega arith
 
 returns-2 : tie.Need-returns-2 Inv-loop μ-loop
 returns-2 c =
-    let args′ = c .before .before .before .before .before .args in
-    let loop′ = c .before .before .before .loop in
-    let loop-test′ = c .before .before .loop-test in
-    let args = args′ in
-    let loop = loop′ in
+    let args = c .before .before .before .before .before .args in
+    let loop = c .before .before .before .loop in
+    let loop-test = c .before .before .loop-test in
     let find2 = c .before .find2 in
-    let loop-test = loop-test′ in
     let p = piece (args .line .now) 44 (loop .at) (find2 .result) (loop .inv .within) (find2 .ensures) in
     passed (loop .inv) p (loop-test .left)
 

@@ -21,12 +21,9 @@ shared-slice-read-if1 c = omega arith
 
 returns : tie.Need-returns Inv-loop μ-loop
 returns c =
-    let args′ = c .before .before .before .before .args in
-    let loop′ = c .before .before .before .loop in
-    let loop-test′ = c .before .before .loop-test in
-    let args = args′ in
-    let loop = loop′ in
-    let loop-test = loop-test′ in
+    let args = c .before .before .before .before .args in
+    let loop = c .before .before .before .loop in
+    let loop-test = c .before .before .loop-test in
     found (args .s .now) (args .c) (loop .i) (loop-test .taken) (c .if1 .taken) ∙ loop .inv
 
 add-i : tie.Need-add-i Inv-loop μ-loop
@@ -37,12 +34,9 @@ loop-less c = omega arith
 
 loop-again : tie.Need-loop-again Inv-loop μ-loop
 loop-again c =
-    let args′ = c .before .before .before .before .args in
-    let loop′ = c .before .before .before .loop in
-    let loop-test′ = c .before .before .loop-test in
-    let args = args′ in
-    let loop = loop′ in
-    let loop-test = loop-test′ in
+    let args = c .before .before .before .before .args in
+    let loop = c .before .before .before .loop in
+    let loop-test = c .before .before .loop-test in
     looks-on (args .s .now) (args .c) (loop .i) (loop-test .taken) (c .if1 .left) ∙ loop .inv
 
 returns-2 : tie.Need-returns-2 Inv-loop μ-loop

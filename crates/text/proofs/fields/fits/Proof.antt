@@ -23,28 +23,22 @@ find-requires c κs = search needs
 
 sub-f : tie.Need-sub-f Inv-loop μ-loop
 sub-f c =
-    let args′ = c .before .before .before .before .before .args in
-    let loop′ = c .before .before .loop in
-    let args = args′ in
-    let loop = loop′ in
+    let args = c .before .before .before .before .before .args in
+    let loop = c .before .before .loop in
     let p = piece (args .line .now) 44 (loop .at) (c .find .result) (loop .inv .within) (c .find .ensures) in
     omega arith
 
 part-f-start : tie.Need-part-f-start Inv-loop μ-loop
 part-f-start c =
-    let args′ = c .before .before .before .before .before .args in
-    let loop′ = c .before .before .loop in
-    let args = args′ in
-    let loop = loop′ in
+    let args = c .before .before .before .before .before .args in
+    let loop = c .before .before .loop in
     let p = piece (args .line .now) 44 (loop .at) (c .find .result) (loop .inv .within) (c .find .ensures) in
     omega arith
 
 part-f-end : tie.Need-part-f-end Inv-loop μ-loop
 part-f-end c =
-    let args′ = c .before .before .before .before .before .args in
-    let loop′ = c .before .before .loop in
-    let args = args′ in
-    let loop = loop′ in
+    let args = c .before .before .before .before .before .args in
+    let loop = c .before .before .loop in
     let p = piece (args .line .now) 44 (loop .at) (c .find .result) (loop .inv .within) (c .find .ensures) in
     omega arith
 
@@ -56,14 +50,10 @@ is-kind-requires c κs = search needs
 
 returns : tie.Need-returns Inv-loop μ-loop
 returns c =
-    let args′ = c .before .before .before .before .before .before .before .before .before .args in
-    let loop′ = c .before .before .before .before .before .before .loop in
-    let find′ = c .before .before .before .before .find in
-    let loop-test′ = c .before .before .before .before .before .loop-test in
-    let args = args′ in
-    let loop = loop′ in
-    let find = find′ in
-    let loop-test = loop-test′ in
+    let args = c .before .before .before .before .before .before .before .before .before .args in
+    let loop = c .before .before .before .before .before .before .loop in
+    let find = c .before .before .before .before .find in
+    let loop-test = c .before .before .before .before .before .loop-test in
     let p = piece (args .line .now) 44 (loop .at) (find .result) (loop .inv .within) (find .ensures) in
     fits-no (loop-test .taken) (loop .inv) p (sym (c .before .is-kind .ensures) ∙ not-true _ (c .if1 .taken))
 
@@ -72,27 +62,19 @@ add-j c = omega arith
 
 returns-2 : tie.Need-returns-2 Inv-loop μ-loop
 returns-2 c =
-    let args′ = c .before .before .before .before .before .before .before .before .before .before .args in
-    let loop′ = c .before .before .before .before .before .before .before .loop in
-    let find′ = c .before .before .before .before .before .find in
-    let loop-test′ = c .before .before .before .before .before .before .loop-test in
-    let is-kind′ = c .before .before .is-kind in
-    let args = args′ in
-    let loop = loop′ in
-    let find = find′ in
-    let loop-test = loop-test′ in
-    let is-kind = is-kind′ in
+    let args = c .before .before .before .before .before .before .before .before .before .before .args in
+    let loop = c .before .before .before .before .before .before .before .loop in
+    let find = c .before .before .before .before .before .find in
+    let loop-test = c .before .before .before .before .before .before .loop-test in
+    let is-kind = c .before .before .is-kind in
     let p = piece (args .line .now) 44 (loop .at) (find .result) (loop .inv .within) (find .ensures) in
     fits-last (loop-test .taken) (loop .inv) p (sym (is-kind .ensures) ∙ not-false _ (c .before .if1 .left)) (c .if2 .taken)
 
 add-at : tie.Need-add-at Inv-loop μ-loop
 add-at c =
-    let args′ = c .before .before .before .before .before .before .before .before .before .before .args in
-    let loop′ = c .before .before .before .before .before .before .before .loop in
-    let find′ = c .before .before .before .before .before .find in
-    let args = args′ in
-    let loop = loop′ in
-    let find = find′ in
+    let args = c .before .before .before .before .before .before .before .before .before .before .args in
+    let loop = c .before .before .before .before .before .before .before .loop in
+    let find = c .before .before .before .before .before .find in
     let p = piece (args .line .now) 44 (loop .at) (find .result) (loop .inv .within) (find .ensures) in
     omega arith
 
@@ -101,16 +83,11 @@ loop-less c = omega arith
 
 loop-again : tie.Need-loop-again Inv-loop μ-loop
 loop-again c =
-    let args′ = c .before .before .before .before .before .before .before .before .before .before .args in
-    let loop′ = c .before .before .before .before .before .before .before .loop in
-    let find′ = c .before .before .before .before .before .find in
-    let loop-test′ = c .before .before .before .before .before .before .loop-test in
-    let is-kind′ = c .before .before .is-kind in
-    let args = args′ in
-    let loop = loop′ in
-    let find = find′ in
-    let loop-test = loop-test′ in
-    let is-kind = is-kind′ in
+    let args = c .before .before .before .before .before .before .before .before .before .before .args in
+    let loop = c .before .before .before .before .before .before .before .loop in
+    let find = c .before .before .before .before .before .find in
+    let loop-test = c .before .before .before .before .before .before .loop-test in
+    let is-kind = c .before .before .is-kind in
     let p = piece (args .line .now) 44 (loop .at) (find .result) (loop .inv .within) (find .ensures) in
     fits-more (loop-test .taken) (loop .inv) p (sym (is-kind .ensures) ∙ not-false _ (c .before .if1 .left)) (c .if2 .left)
 

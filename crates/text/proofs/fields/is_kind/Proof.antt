@@ -26,10 +26,8 @@ is-real-requires c κs = search needs
 returns-2 : tie.Need-returns-2
 unfolding isKind
 returns-2 c =
-    let if1′ = c .before .before .before .if1 in
-    let if2′ = c .before .before .if2 in
-    let if1 = if1′ in
-    let if2 = if2′ in
+    let if1 = c .before .before .before .if1 in
+    let if2 = c .before .before .if2 in
     c .is-real .ensures ∙ ap isReal (c .before .real-of .ensures) ∙ sym (cond-no _ _ (ne-eqb _ _ (if1 .left)) ∙ cond-yes _ _ (eq-eqb _ _ (if2 .taken)))
 
 letter-of-requires : tie.Need-letter-of-requires
@@ -41,12 +39,9 @@ is-role-requires c κs = search needs
 returns-3 : tie.Need-returns-3
 unfolding isKind
 returns-3 c =
-    let if1′ = c .before .before .before .before .if1 in
-    let if2′ = c .before .before .before .if2 in
-    let if3′ = c .before .before .if3 in
-    let if1 = if1′ in
-    let if2 = if2′ in
-    let if3 = if3′ in
+    let if1 = c .before .before .before .before .if1 in
+    let if2 = c .before .before .before .if2 in
+    let if3 = c .before .before .if3 in
     c .is-role .ensures ∙ ap isRole (c .before .letter-of .ensures) ∙ sym (cond-no _ _ (ne-eqb _ _ (if1 .left)) ∙ cond-no _ _ (ne-eqb _ _ (if2 .left)) ∙ cond-yes _ _ (eq-eqb _ _ (if3 .taken)))
 
 letter-of-requires-2 : tie.Need-letter-of-requires-2
@@ -55,12 +50,9 @@ letter-of-requires-2 c κs = search needs
 returns-4 : tie.Need-returns-4
 unfolding isKind
 returns-4 c =
-    let args′ = c .before .before .before .before .before .args in
-    let if1′ = c .before .before .before .if1 in
-    let if2′ = c .before .before .if2 in
-    let args = args′ in
-    let if1 = if1′ in
-    let if2 = if2′ in
+    let args = c .before .before .before .before .before .args in
+    let if1 = c .before .before .before .if1 in
+    let if2 = c .before .before .if2 in
     ap (λ b. eqb b (args .kind)) (c .letter-of2 .ensures) ∙ sym (cond-no _ _ (ne-eqb _ _ (if1 .left)) ∙ cond-no _ _ (ne-eqb _ _ (if2 .left)) ∙ cond-no _ _ (ne-eqb _ _ (c .before .if3 .left)))
 
 pub is-kind-spec : {M : Type 1} → statement M

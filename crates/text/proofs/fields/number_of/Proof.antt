@@ -19,14 +19,12 @@ well-written-requires c κs = search needs
 
 returns : tie.Need-returns Inv-loop μ-loop
 returns c =
-    let args′ = c .before .before .before .args in
-    let args = args′ in
+    let args = c .before .before .before .args in
     not-written (args .f .now) (sym (c .before .well-written .ensures) ∙ not-true _ (c .if1 .taken))
 
 loop-holds : tie.Need-loop-holds Inv-loop μ-loop
 loop-holds c =
-    let args′ = c .before .before .before .args in
-    let args = args′ in
+    let args = c .before .before .before .args in
     digits-start (args .f .now) (sym (c .before .well-written .ensures) ∙ not-false _ (c .if1 .left))
 
 shared-slice-read-b : tie.Need-shared-slice-read-b Inv-loop μ-loop
@@ -37,10 +35,8 @@ is-digit-requires c κs = search needs
 
 returns-2 : tie.Need-returns-2 Inv-loop μ-loop
 returns-2 c =
-    let loop′ = c .before .before .before .before .loop in
-    let loop-test′ = c .before .before .before .loop-test in
-    let loop = loop′ in
-    let loop-test = loop-test′ in
+    let loop = c .before .before .before .before .loop in
+    let loop-test = c .before .before .before .loop-test in
     not-digit (loop-test .taken) (loop .inv) (sym (c .before .is-digit .ensures) ∙ not-true _ (c .if2 .taken))
 
 mul-v : tie.Need-mul-v Inv-loop μ-loop
@@ -48,35 +44,27 @@ mul-v c = omega arith
 
 cast-v : tie.Need-cast-v Inv-loop μ-loop
 cast-v c =
-    let args′ = c .before .before .before .before .before .before .before .before .args in
-    let loop′ = c .before .before .before .before .loop in
-    let args = args′ in
-    let loop = loop′ in
+    let args = c .before .before .before .before .before .before .before .before .args in
+    let loop = c .before .before .before .before .loop in
     omega (arith, digit-range (getD (args .f .now) (loop .i) 0) (sym (c .before .is-digit .ensures) ∙ not-false _ (c .if2 .left)))
 
 sub-v : tie.Need-sub-v Inv-loop μ-loop
 sub-v c =
-    let args′ = c .before .before .before .before .before .before .before .before .args in
-    let loop′ = c .before .before .before .before .loop in
-    let args = args′ in
-    let loop = loop′ in
+    let args = c .before .before .before .before .before .before .before .before .args in
+    let loop = c .before .before .before .before .loop in
     omega (arith, digit-range (getD (args .f .now) (loop .i) 0) (sym (c .before .is-digit .ensures) ∙ not-false _ (c .if2 .left)))
 
 add-v : tie.Need-add-v Inv-loop μ-loop
 add-v c =
-    let args′ = c .before .before .before .before .before .before .before .before .args in
-    let loop′ = c .before .before .before .before .loop in
-    let args = args′ in
-    let loop = loop′ in
+    let args = c .before .before .before .before .before .before .before .before .args in
+    let loop = c .before .before .before .before .loop in
     omega (arith, digit-range (getD (args .f .now) (loop .i) 0) (sym (c .before .is-digit .ensures) ∙ not-false _ (c .if2 .left)))
 
 returns-3 : tie.Need-returns-3 Inv-loop μ-loop
 returns-3 c =
-    let loop′ = c .before .before .before .before .before .loop in
-    let loop-test′ = c .before .before .before .before .loop-test in
-    let loop = loop′ in
-    let loop-test = loop-test′ in
-    too-large (loop-test .taken) (loop .inv) (c .if3 .taken)
+    let loop = c .before .before .before .before .before .loop in
+    let loop-test = c .before .before .before .before .loop-test in
+    too-large (loop-test .taken) (loop .inv) (omega arith)
 
 add-i : tie.Need-add-i Inv-loop μ-loop
 add-i c = omega arith
@@ -86,12 +74,9 @@ loop-less c = omega arith
 
 loop-again : tie.Need-loop-again Inv-loop μ-loop
 loop-again c =
-    let loop′ = c .before .before .before .before .before .loop in
-    let loop-test′ = c .before .before .before .before .loop-test in
-    let is-digit′ = c .before .before .is-digit in
-    let loop = loop′ in
-    let loop-test = loop-test′ in
-    let is-digit = is-digit′ in
+    let loop = c .before .before .before .before .before .loop in
+    let loop-test = c .before .before .before .before .loop-test in
+    let is-digit = c .before .before .is-digit in
     digits-more (loop-test .taken) (loop .inv) (sym (is-digit .ensures) ∙ not-false _ (c .before .if2 .left)) (c .if3 .left)
 
 returns-4 : tie.Need-returns-4 Inv-loop μ-loop

@@ -28,18 +28,14 @@ is-hex-requires c κs = search needs
 
 returns-2 : tie.Need-returns-2 Inv-loop μ-loop
 returns-2 c =
-    let loop′ = c .before .before .before .before .loop in
-    let loop-test′ = c .before .before .before .loop-test in
-    let loop = loop′ in
-    let loop-test = loop-test′ in
+    let loop = c .before .before .before .before .loop in
+    let loop-test = c .before .before .before .loop-test in
     not-hex (loop-test .taken) (loop .inv) (sym (c .before .is-hex .ensures) ∙ not-true _ (c .if2 .taken))
 
 mul-v : tie.Need-mul-v Inv-loop μ-loop
 mul-v c =
-    let loop′ = c .before .before .before .before .loop in
-    let loop-test′ = c .before .before .before .loop-test in
-    let loop = loop′ in
-    let loop-test = loop-test′ in
+    let loop = c .before .before .before .before .loop in
+    let loop-test = c .before .before .before .loop-test in
     omega (arith, hexes-room (loop-test .taken) (loop .inv))
 
 hex-value-requires : tie.Need-hex-value-requires Inv-loop μ-loop
@@ -47,10 +43,8 @@ hex-value-requires c κs = sym (c .before .is-hex .ensures) ∙ not-false _ (c .
 
 add-v : tie.Need-add-v Inv-loop μ-loop
 add-v c =
-    let loop′ = c .before .before .before .before .before .loop in
-    let loop-test′ = c .before .before .before .before .loop-test in
-    let loop = loop′ in
-    let loop-test = loop-test′ in
+    let loop = c .before .before .before .before .before .loop in
+    let loop-test = c .before .before .before .before .loop-test in
     omega (arith, hexes-room (loop-test .taken) (loop .inv))
 
 add-k : tie.Need-add-k Inv-loop μ-loop
@@ -61,12 +55,9 @@ loop-less c = omega arith
 
 loop-again : tie.Need-loop-again Inv-loop μ-loop
 loop-again c =
-    let loop′ = c .before .before .before .before .before .loop in
-    let loop-test′ = c .before .before .before .before .loop-test in
-    let is-hex′ = c .before .before .is-hex in
-    let loop = loop′ in
-    let loop-test = loop-test′ in
-    let is-hex = is-hex′ in
+    let loop = c .before .before .before .before .before .loop in
+    let loop-test = c .before .before .before .before .loop-test in
+    let is-hex = c .before .before .is-hex in
     hexes-more (loop-test .taken) (loop .inv) (c .hex-value .result) (sym (is-hex .ensures) ∙ not-false _ (c .before .if2 .left)) (c .hex-value .ensures .0) (c .hex-value .ensures .1)
 
 of-pattern-requires : tie.Need-of-pattern-requires Inv-loop μ-loop

@@ -19,10 +19,8 @@ dir-or-requires c κs = search needs
 
 returns : tie.Need-returns
 returns c =
-    let real-at2′ = c .before .before .real-at2 in
-    let real-at′ = c .before .before .before .real-at in
-    let real-at2 = real-at2′ in
-    let real-at = real-at′ in
+    let real-at2 = c .before .before .real-at2 in
+    let real-at = c .before .before .before .real-at in
     simp (c .dir-or .ensures, c .before .new .ensures, real-at2 .ensures, real-at .ensures)
 
 pub dir-at-spec : {M : Type 1} → statement M

@@ -33,24 +33,17 @@ real-at-requires-4 c κs = search needs
 
 returns-2 : tie.Need-returns-2
 returns-2 c =
-    let real-at2′ = c .before .before .real-at2 in
-    let fits2′ = c .before .before .before .before .before .before .before .fits2 in
-    let if1′ = c .before .before .before .before .before .before .if1 in
-    let fits3′ = c .before .before .before .before .fits3 in
-    let if2′ = c .before .before .before .if2 in
-    let real-at2 = real-at2′ in
-    let fits2 = fits2′ in
-    let if1 = if1′ in
-    let fits3 = fits3′ in
-    let if2 = if2′ in
+    let real-at2 = c .before .before .real-at2 in
+    let fits2 = c .before .before .before .before .before .before .before .fits2 in
+    let if1 = c .before .before .before .before .before .before .if1 in
+    let fits3 = c .before .before .before .before .fits3 in
+    let if2 = c .before .before .before .if2 in
     simp (c .real-at4 .ensures, c .before .real-at3 .ensures, real-at2 .ensures) (sym (fit-no _ _ _ (sym (fits2 .ensures) ∙ if1 .left) ∙ fit-yes _ _ _ (sym (fits3 .ensures) ∙ if2 .taken)))
 
 returns-3 : tie.Need-returns-3
 returns-3 c =
-    let fits2′ = c .before .before .before .before .fits2 in
-    let if1′ = c .before .before .before .if1 in
-    let fits2 = fits2′ in
-    let if1 = if1′ in
+    let fits2 = c .before .before .before .before .fits2 in
+    let if1 = c .before .before .before .if1 in
     sym (fit-no _ _ _ (sym (fits2 .ensures) ∙ if1 .left) ∙ fit-no _ _ _ (sym (c .before .fits3 .ensures) ∙ c .if2 .left) ∙ fit-none _)
 
 pub end-record-spec : {M : Type 1} → statement M

@@ -18,10 +18,8 @@ point-at-requires-2 c κs = search needs
 
 returns : tie.Need-returns
 returns c =
-    let fits2′ = c .before .before .before .fits2 in
-    let if1′ = c .before .before .if1 in
-    let fits2 = fits2′ in
-    let if1 = if1′ in
+    let fits2 = c .before .before .before .fits2 in
+    let if1 = c .before .before .if1 in
     simp (c .point-at2 .ensures, c .before .point-at .ensures) (sym (fit-yes _ _ _ (sym (fits2 .ensures) ∙ if1 .taken)))
 
 slice-aggregate-fits-2 : tie.Need-slice-aggregate-fits-2
@@ -44,18 +42,12 @@ dir-at-requires-2 c κs = search needs
 
 returns-2 : tie.Need-returns-2
 returns-2 c =
-    let real-at′ = c .before .before .real-at in
-    let point-at3′ = c .before .before .before .point-at3 in
-    let fits2′ = c .before .before .before .before .before .before .before .before .fits2 in
-    let if1′ = c .before .before .before .before .before .before .before .if1 in
-    let fits3′ = c .before .before .before .before .before .fits3 in
-    let if2′ = c .before .before .before .before .if2 in
-    let real-at = real-at′ in
-    let point-at3 = point-at3′ in
-    let fits2 = fits2′ in
-    let if1 = if1′ in
-    let fits3 = fits3′ in
-    let if2 = if2′ in
+    let real-at = c .before .before .real-at in
+    let point-at3 = c .before .before .before .point-at3 in
+    let fits2 = c .before .before .before .before .before .before .before .before .fits2 in
+    let if1 = c .before .before .before .before .before .before .before .if1 in
+    let fits3 = c .before .before .before .before .before .fits3 in
+    let if2 = c .before .before .before .before .if2 in
     simp (c .dir-at2 .ensures, c .before .dir-at .ensures, real-at .ensures, point-at3 .ensures) (sym (fit-no _ _ _ (sym (fits2 .ensures) ∙ if1 .left) ∙ fit-yes _ _ _ (sym (fits3 .ensures) ∙ if2 .taken)))
 
 pair-record-requires : tie.Need-pair-record-requires
@@ -63,12 +55,9 @@ pair-record-requires c κs = search needs
 
 returns-3 : tie.Need-returns-3
 returns-3 c =
-    let fits2′ = c .before .before .before .before .before .fits2 in
-    let if1′ = c .before .before .before .before .if1 in
-    let fits3′ = c .before .before .fits3 in
-    let fits2 = fits2′ in
-    let if1 = if1′ in
-    let fits3 = fits3′ in
+    let fits2 = c .before .before .before .before .before .fits2 in
+    let if1 = c .before .before .before .before .if1 in
+    let fits3 = c .before .before .fits3 in
     simp (c .pair-record .ensures) (sym (fit-no _ _ _ (sym (fits2 .ensures) ∙ if1 .left) ∙ fit-no _ _ _ (sym (fits3 .ensures) ∙ c .before .if2 .left)))
 
 pub outline-record-spec : {M : Type 1} → statement M

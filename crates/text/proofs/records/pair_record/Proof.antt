@@ -21,10 +21,8 @@ fits-requires-2 c κs = search needs
 
 returns-2 : tie.Need-returns-2
 returns-2 c =
-    let fits2′ = c .before .before .before .before .fits2 in
-    let if1′ = c .before .before .before .if1 in
-    let fits2 = fits2′ in
-    let if1 = if1′ in
+    let fits2 = c .before .before .before .before .fits2 in
+    let if1 = c .before .before .before .if1 in
     sym (fit-no _ _ _ (sym (fits2 .ensures) ∙ if1 .left) ∙ fit-yes _ _ _ (sym (c .before .fits3 .ensures) ∙ c .if2 .taken))
 
 side-record-requires : tie.Need-side-record-requires
@@ -32,12 +30,9 @@ side-record-requires c κs = search needs
 
 returns-3 : tie.Need-returns-3
 returns-3 c =
-    let fits2′ = c .before .before .before .before .before .fits2 in
-    let if1′ = c .before .before .before .before .if1 in
-    let fits3′ = c .before .before .fits3 in
-    let fits2 = fits2′ in
-    let if1 = if1′ in
-    let fits3 = fits3′ in
+    let fits2 = c .before .before .before .before .before .fits2 in
+    let if1 = c .before .before .before .before .if1 in
+    let fits3 = c .before .before .fits3 in
     simp (c .side-record .ensures) (sym (fit-no _ _ _ (sym (fits2 .ensures) ∙ if1 .left) ∙ fit-no _ _ _ (sym (fits3 .ensures) ∙ c .before .if2 .left)))
 
 pub pair-record-spec : {M : Type 1} → statement M

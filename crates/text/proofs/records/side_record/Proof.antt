@@ -27,12 +27,9 @@ range-at-requires-2 c κs = search needs
 
 returns-2 : tie.Need-returns-2
 returns-2 c =
-    let fits2′ = c .before .before .before .before .before .fits2 in
-    let if1′ = c .before .before .before .before .if1 in
-    let fits3′ = c .before .before .fits3 in
-    let fits2 = fits2′ in
-    let if1 = if1′ in
-    let fits3 = fits3′ in
+    let fits2 = c .before .before .before .before .before .fits2 in
+    let if1 = c .before .before .before .before .if1 in
+    let fits3 = c .before .before .fits3 in
     simp (c .range-at2 .ensures) (sym (fit-no _ _ _ (sym (fits2 .ensures) ∙ if1 .left) ∙ fit-yes _ _ _ (sym (fits3 .ensures) ∙ c .before .if2 .taken)))
 
 end-record-requires : tie.Need-end-record-requires
@@ -40,12 +37,9 @@ end-record-requires c κs = search needs
 
 returns-3 : tie.Need-returns-3
 returns-3 c =
-    let fits2′ = c .before .before .before .before .before .fits2 in
-    let if1′ = c .before .before .before .before .if1 in
-    let fits3′ = c .before .before .fits3 in
-    let fits2 = fits2′ in
-    let if1 = if1′ in
-    let fits3 = fits3′ in
+    let fits2 = c .before .before .before .before .before .fits2 in
+    let if1 = c .before .before .before .before .if1 in
+    let fits3 = c .before .before .fits3 in
     simp (c .end-record .ensures) (sym (fit-no _ _ _ (sym (fits2 .ensures) ∙ if1 .left) ∙ fit-no _ _ _ (sym (fits3 .ensures) ∙ c .before .if2 .left)))
 
 pub side-record-spec : {M : Type 1} → statement M
