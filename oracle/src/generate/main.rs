@@ -132,6 +132,15 @@ fn any(rng: &mut Rng) -> Vec<u8> {
     unreachable!("the weights add up to more than any pick")
 }
 
+/// Texts for the comparison of refusals: every other one damaged.
+fn half_damaged(index: u64, rng: &mut Rng) -> Vec<u8> {
+    if index % 2 == 0 {
+        damaged_text(rng)
+    } else {
+        any(rng)
+    }
+}
+
 /// A text of the family of that name.
 fn only(name: &str, rng: &mut Rng) -> Option<Vec<u8>> {
     let valid = VALID.iter().find(|family| family.1 == name);
@@ -142,14 +151,24 @@ fn only(name: &str, rng: &mut Rng) -> Option<Vec<u8>> {
     family.map(|(_, _, make)| make(rng))
 }
 
+/// Which texts to write.
+enum Choice<'a> {
+    Any,
+    HalfDamaged,
+    Only(&'a str),
+}
+
 /// Writes `count` sheets into a folder.
-fn write(folder: &str, count: u64, seed: u64, family: Option<&str>) -> io::Result<()> {
+fn write(folder: &str, count: u64, seed: u64, choice: &Choice) -> io::Result<()> {
     fs::create_dir_all(folder)?;
     for index in 0..count {
         let mut rng = Rng::new(seed, index);
-        let text = match family {
-            Some(name) => only(name, &mut rng).ok_or(io::Error::other("no such family"))?,
-            None => any(&mut rng),
+        let text = match choice {
+            Choice::Only(name) => {
+                only(name, &mut rng).ok_or(io::Error::other("no such family"))?
+            }
+            Choice::HalfDamaged => half_damaged(index, &mut rng),
+            Choice::Any => any(&mut rng),
         };
         fs::write(Path::new(folder).join(format!("{index:06}.sheet")), text)?;
     }
@@ -174,7 +193,7 @@ fn name_families() {
 }
 
 fn run(words: &[&str]) -> io::Result<()> {
-    let usage = || io::Error::other("usage: generate [--only FAMILY] FOLDER N [SEED]");
+    let usage = || io::Error::other("usage: generate [--only FAMILY | --half-damaged] FOLDER N [SEED]");
     let number = |word: &str| word.parse::<u64>().map_err(|_| usage());
     match words {
         ["--families"] => {
@@ -183,12 +202,17 @@ fn run(words: &[&str]) -> io::Result<()> {
         }
         ["--samples", folder] => write_samples(folder, &samples::all()),
         ["--findings", folder] => write_samples(folder, &samples::findings()),
-        ["--only", family, folder, count] => write(folder, number(count)?, 1, Some(family)),
-        ["--only", family, folder, count, seed] => {
-            write(folder, number(count)?, number(seed)?, Some(family))
+        ["--only", family, folder, count] => {
+            write(folder, number(count)?, 1, &Choice::Only(family))
         }
-        [folder, count] => write(folder, number(count)?, 1, None),
-        [folder, count, seed] => write(folder, number(count)?, number(seed)?, None),
+        ["--only", family, folder, count, seed] => {
+            write(folder, number(count)?, number(seed)?, &Choice::Only(family))
+        }
+        ["--half-damaged", folder, count, seed] => {
+            write(folder, number(count)?, number(seed)?, &Choice::HalfDamaged)
+        }
+        [folder, count] => write(folder, number(count)?, 1, &Choice::Any),
+        [folder, count, seed] => write(folder, number(count)?, number(seed)?, &Choice::Any),
         _ => Err(usage()),
     }
 }
