@@ -44,7 +44,7 @@ stored (OnA x ∷ rs) t d = stored rs (counted t (OnA x)) (put t d (OnA x))
 stored (OnB x ∷ rs) t d = stored rs (counted t (OnB x)) (put t d (OnB x))
 stored (Margin m ∷ rs) t d = stored rs (counted t (Margin m)) (put t d (Margin m))
 stored (Turned e ∷ rs) t d = stored rs (counted t (Turned e)) (put t d (Turned e))
-stored (Malformed ∷ rs) t d = stored rs t d
+stored (Malformed ∷ rs) t d = stored rs (counted t Malformed) (put t d Malformed)
 
 numbered : (rs : List Record) (t : Tally) → foldOf counted t rs .bodies ≡ t .bodies + length (bodiesOf rs)
 unfolding foldOf counted
@@ -56,9 +56,9 @@ numbered (Edge g ∷ rs) t = numbered rs (counted t (Edge g))
 numbered (Paired g ∷ rs) t = numbered rs (counted t (Paired g))
 numbered (OnA x ∷ rs) t = numbered rs (counted t (OnA x))
 numbered (OnB x ∷ rs) t = numbered rs (counted t (OnB x))
-numbered (Margin m ∷ rs) t = numbered rs t
-numbered (Turned e ∷ rs) t = numbered rs t
-numbered (Malformed ∷ rs) t = numbered rs t
+numbered (Margin m ∷ rs) t = numbered rs (counted t (Margin m))
+numbered (Turned e ∷ rs) t = numbered rs (counted t (Turned e))
+numbered (Malformed ∷ rs) t = numbered rs (counted t Malformed)
 
 pub bodies-are : (rs : List Record)
     → (drafted noTally noDraft rs .body ≡ sets (replicate 15 noBody) 0 (bodiesOf rs)) × (foldOf counted noTally rs .bodies ≡ length (bodiesOf rs))

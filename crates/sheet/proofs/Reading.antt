@@ -136,10 +136,11 @@ module _ {text : List ℕ} {seg : List OutlineSeg} {made : Draft} {tally : Tally
   line-piece = piece text 10 at e (w .inside) q
 
   -- the last piece
-  pub at-end : e ≡ length text → {b : Bool} → b ≡ mayEnd (length (take (e - at) (drop at text))) stands → ended b n good (accepted tally made seg) ≡ sheetOfLines text
+  pub at-end : e ≡ length text → {b : Bool} → b ≡ mayEnd (length (take (e - at) (drop at text))) stands → {x : Sheet} → x ≡ ended b n good (accepted tally made seg) → x ≡ sheetOfLines text
   unfolding lines allWithin drafted edges foldOf
-  at-end h {b} y =
-      go b good
+  at-end h {b} y z =
+      z
+      ∙ go b good
       ∙ ap (λ (x : Bool). judgedFrom good tally made seg (cond x (whole []) (stuck n))) y
       ∙ sym (ap (λ (ps : List (List ℕ)). judgedFrom good tally made seg (lines stands n ps)) (line-piece .last (omega arith)))
       ∙ w .same

@@ -67,7 +67,7 @@ returns c =
     let loop = c .before .before .before .before .before .loop in
     let find = c .before .before .before .before .find in
     let if1 = c .before .before .if1 in
-    c .end .ensures ∙ at-end (loop .inv) (find .ensures) (if1 .taken) (c .before .may-end .ensures)
+    at-end (loop .inv) (find .ensures) (if1 .taken) (c .before .may-end .ensures) (c .end .ensures)
 
 record-of-requires : tie.Need-record-of-requires Inv-loop μ-loop
 record-of-requires c κs = search needs
