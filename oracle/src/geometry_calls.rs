@@ -5,9 +5,11 @@
 #[path = "../target/geometry/mod.rs"]
 #[allow(dead_code)]
 mod geometry;
+mod splitmix;
 
 use geometry::signed::in_sector;
 use geometry::{center_on_face, disc_on_disc, disc_on_face, Dir, Disc, Face, Point, Proximity, Seg};
+use splitmix::Random;
 use std::io::{BufRead, Write};
 
 extern "C" {
@@ -24,17 +26,7 @@ extern "C" {
     fn sewqirun_center_on_face(n: u64, cx: f64, cy: f64, ax: f64, ay: f64, bx: f64, by: f64, nx: f64, ny: f64) -> f64;
 }
 
-struct Random(u64);
-
 impl Random {
-    fn next(&mut self) -> u64 {
-        self.0 = self.0.wrapping_add(0x9e37_79b9_7f4a_7c15);
-        let mut z = self.0;
-        z = (z ^ (z >> 30)).wrapping_mul(0xbf58_476d_1ce4_e5b9);
-        z = (z ^ (z >> 27)).wrapping_mul(0x94d0_49bb_1331_11eb);
-        z ^ (z >> 31)
-    }
-
     fn below(&mut self, n: u64) -> u64 {
         self.next() % n
     }

@@ -6,25 +6,17 @@ mod decided;
 mod geometry;
 mod mechanism;
 mod registry;
+mod splitmix;
 
 use geometry::{Dir, Point};
 use libm::Lent;
 use mechanism::{Body, BodyId, CoordId, Joint, MaterialPoint, Mechanism, Pose};
+use splitmix::Random;
 use std::io::{BufRead, Write};
 
 pub const G: f64 = 9.80665;
 
-struct Random(u64);
-
 impl Random {
-    fn next(&mut self) -> u64 {
-        self.0 = self.0.wrapping_add(0x9e37_79b9_7f4a_7c15);
-        let mut z = self.0;
-        z = (z ^ (z >> 30)).wrapping_mul(0xbf58_476d_1ce4_e5b9);
-        z = (z ^ (z >> 27)).wrapping_mul(0x94d0_49bb_1331_11eb);
-        z ^ (z >> 31)
-    }
-
     fn below(&mut self, n: usize) -> usize {
         (self.next() % n as u64) as usize
     }

@@ -1,4 +1,7 @@
 // Compares the proved root with the processor's, and times both.
+mod splitmix;
+
+use splitmix::Random;
 use std::hint::black_box;
 use std::time::Instant;
 
@@ -9,18 +12,6 @@ extern "C" {
 // The proved root takes any double and has no other demand.
 fn root(x: f64) -> f64 {
     unsafe { sewqirun_root(x) }
-}
-
-struct Random(u64);
-
-impl Random {
-    fn next(&mut self) -> u64 {
-        self.0 = self.0.wrapping_add(0x9e37_79b9_7f4a_7c15);
-        let mut z = self.0;
-        z = (z ^ (z >> 30)).wrapping_mul(0xbf58_476d_1ce4_e5b9);
-        z = (z ^ (z >> 27)).wrapping_mul(0x94d0_49bb_1331_11eb);
-        z ^ (z >> 31)
-    }
 }
 
 struct Tally {
