@@ -1,33 +1,28 @@
+use native.Mathlib.Omega.{arith}
+use Rattle.listing.proofs.DigitLaws.{Counting, counts-start, counts-room, counts-more, counts-end}
 use Rattle.listing.proofs.digits.digit_count.Statement.{statement}
 use Rattle.listing.proofs.digits.digit_count.Tie as tie
-use Rattle.listing.proofs.digits.digit_count.Reads as reads
-use Rattle.listing.proofs.digits.digit_count.Lts as lts
 
 abbrev Inv-loop : tie.InvT-loop
-Inv-loop v n₀ rest₀ n rest = ?
+Inv-loop v n₀ rest₀ n rest = Counting v n rest
 
 abbrev μ-loop : tie.MeasureT-loop
-μ-loop v n₀ rest₀ n rest = ?
+μ-loop v n₀ rest₀ n rest = rest
 
--- src/digits.rt:39:5
 loop-holds : tie.Need-loop-holds Inv-loop μ-loop
-loop-holds c = ?
+loop-holds c = counts-start (c .args .v) (omega arith)
 
--- src/digits.rt:41:9
 add-n : tie.Need-add-n Inv-loop μ-loop
-add-n c = ?
+add-n c = omega (arith, counts-room (c .before .loop .inv) (c .loop-test .taken))
 
--- src/digits.rt:39:5
 loop-less : tie.Need-loop-less Inv-loop μ-loop
-loop-less c = ?
+loop-less c = omega arith
 
--- src/digits.rt:39:5
 loop-again : tie.Need-loop-again Inv-loop μ-loop
-loop-again c = ?
+loop-again c = counts-more (c .before .loop .inv) (c .loop-test .taken)
 
--- src/digits.rt:34:1
 returns : tie.Need-returns Inv-loop μ-loop
-returns c = ?
+returns c = counts-end (c .before .loop .inv) (c .loop-test .left)
 
 pub digit-count-spec : {M : Type 1} → statement M
 digit-count-spec =

@@ -1,58 +1,54 @@
+use borrow.Author.Needs.{needs}
+use native.Mathlib.Omega.{arith}
+use native.Mathlib.Nat.{mod-lt}
+use Prim.Native.Nat.{_%_, _<_}
+use Rattle.listing.proofs.DigitLaws.{Backwards, writes-start, writes-more, writes-end}
 use Rattle.listing.proofs.digits.put_digits.Statement.{statement}
 use Rattle.listing.proofs.digits.put_digits.Tie as tie
-use Rattle.listing.proofs.digits.put_digits.Reads as reads
-use Rattle.listing.proofs.digits.put_digits.Lts as lts
-use Rattle.listing.proofs.digits.digit.Reads as digit-reads
 
 abbrev Inv-loop : tie.InvT-loop
-Inv-loop out₀ at base n v left₀ rest₀ out left rest = ?
+Inv-loop out₀ at base n v left₀ rest₀ out left rest = Backwards out₀ at base n v out left rest
 
 abbrev μ-loop : tie.MeasureT-loop
-μ-loop out₀ at base n v left₀ rest₀ out left rest = ?
+μ-loop out₀ at base n v left₀ rest₀ out left rest = left
 
--- src/digits.rt:26:5
 loop-holds : tie.Need-loop-holds Inv-loop μ-loop
-loop-holds c = ?
+loop-holds c =
+    let args = c .before .args in
+    writes-start (args .out .now) (args .at) (args .base) (args .n) (args .v)
 
--- src/digits.rt:27:9
 sub-left : tie.Need-sub-left Inv-loop μ-loop
-sub-left c = ?
+sub-left c = omega arith
 
--- src/digits.rt:28:32
 rem-digit : tie.Need-rem-digit Inv-loop μ-loop
-rem-digit c = ?
+rem-digit c = omega arith
 
--- src/digits.rt:28:26
 digit-requires : tie.Need-digit-requires Inv-loop μ-loop
-digit-requires c κs = ?
+digit-requires c κs =
+    let args = c .before .before .before .args in
+    let loop = c .before .loop in
+    omega (arith, mod-lt (loop .rest) {m = args .base} (omega arith))
 
--- src/digits.rt:28:13
 add-out : tie.Need-add-out Inv-loop μ-loop
-add-out c = ?
+add-out c = omega arith
 
--- src/digits.rt:28:9
 slice-write-out : tie.Need-slice-write-out Inv-loop μ-loop
-slice-write-out c = ?
+slice-write-out c = omega arith
 
--- src/digits.rt:29:16
 div-rest : tie.Need-div-rest Inv-loop μ-loop
-div-rest c = ?
+div-rest c = omega arith
 
--- src/digits.rt:26:5
 loop-less : tie.Need-loop-less Inv-loop μ-loop
-loop-less c = ?
+loop-less c = omega arith
 
--- src/digits.rt:26:5
 loop-again : tie.Need-loop-again Inv-loop μ-loop
-loop-again c = ?
+loop-again c = writes-more (c .before .before .loop .inv) (c .digit .result) (c .before .loop-test .taken) (c .digit .ensures)
 
--- src/digits.rt:20:1
 same-length : tie.Need-same-length Inv-loop μ-loop
-same-length c = ?
+same-length c = c .before .loop .inv .long
 
--- src/digits.rt:20:1
 returns : tie.Need-returns Inv-loop μ-loop
-returns c = ?
+returns c = writes-end (c .before .loop .inv) (c .loop-test .left)
 
 pub put-digits-spec : {M : Type 1} → statement M
 put-digits-spec =
