@@ -12,7 +12,7 @@ use lib.Seq.{sets, set-comm}
 use borrow.Author.Tests.{ltb-true, ltb-false, lt-ltb, le-ltb}
 use Rattle.laws.proofs.Choice.{cond-yes, cond-no}
 use Rattle.laws.proofs.Writing.{sets-append}
-use Rattle.listing.specs.Digits.{digitOf, lastDigits, digitCount}
+use Rattle.listing.specs.Digits.{digitOf, lastDigits, digitCount, decimalOf}
 
 -- ---- one digit
 pub digit-low : (d : ℕ) → d < 10 → digitOf d ≡ 48 + d
@@ -121,3 +121,8 @@ module _ {v n rest : ℕ} (w : Counting v n rest) where
 
   pub counts-end : rest < 10 → n ≡ digitCount 19 v
   counts-end h = omega (arith, count-one (20 - n) rest h, w .same, w .some)
+
+-- ---- a whole number
+pub length-decimal : (v : ℕ) → length (decimalOf v) ≡ digitCount 19 v
+unfolding decimalOf
+length-decimal v = length-last 10 (digitCount 19 v) v

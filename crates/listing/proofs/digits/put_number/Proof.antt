@@ -1,29 +1,36 @@
+use borrow.Author.Needs.{needs}
+use native.Mathlib.Omega.{arith}
+use Prim.Native.Nat.{ℕ, _+_}
+use mathlib.Core.Path.{sym, ap, _∙_}
+use lib.Seq.{sets}
+use Rattle.listing.specs.Digits.{lastDigits, decimalOf}
+use Rattle.listing.proofs.DigitLaws.{length-decimal}
 use Rattle.listing.proofs.digits.put_number.Statement.{statement}
 use Rattle.listing.proofs.digits.put_number.Tie as tie
-use Rattle.listing.proofs.digits.put_number.Reads as reads
-use Rattle.listing.proofs.digits.put_number.Lts as lts
-use Rattle.listing.proofs.digits.digit_count.Reads as digit-count-reads
-use Rattle.listing.proofs.digits.put_digits.Reads as put-digits-reads
 
--- src/digits.rt:52:9
 digit-count-requires : tie.Need-digit-count-requires
-digit-count-requires c κs = ?
+digit-count-requires c κs = search needs
 
--- src/digits.rt:53:5
 put-digits-requires : tie.Need-put-digits-requires
-put-digits-requires c κs = ?
+put-digits-requires c κs =
+    let args = c .before .before .before .args in
+    (omega arith, omega arith, omega (arith, c .before .digit-count .ensures, length-decimal (args .v)))
 
--- src/digits.rt:54:5
 add-result : tie.Need-add-result
-add-result c = ?
+add-result c =
+    let args = c .before .before .before .before .before .before .args in
+    let digit-count = c .before .before .before .before .digit-count in
+    omega (arith, digit-count .ensures, length-decimal (args .v))
 
--- src/digits.rt:47:1
 same-length : tie.Need-same-length
-same-length c = ?
+same-length c = search needs
 
--- src/digits.rt:47:1
 returns : tie.Need-returns
-returns c = ?
+unfolding decimalOf
+returns c =
+    let args = c .before .before .before .before .before .before .args in
+    let counted = c .before .before .before .before .digit-count .ensures in
+    (ap (λ (n : ℕ). args .at + n) (counted ∙ sym (length-decimal (args .v))), c .before .before .put-digits .ensures ∙ ap (λ (n : ℕ). sets (args .out .now) (args .at) (lastDigits 10 n (args .v))) counted)
 
 pub put-number-spec : {M : Type 1} → statement M
 put-number-spec =

@@ -1,29 +1,29 @@
+use borrow.Author.Needs.{needs}
+use native.Mathlib.Omega.{arith}
+use Prim.Native.Nat.{ℕ}
+use mathlib.Core.Path.{refl, ap, _∙_}
+use lib.Seq.{sets}
+use Rattle.listing.specs.Digits.{lastDigits, patternOf}
 use Rattle.listing.proofs.digits.put_pattern.Statement.{statement}
 use Rattle.listing.proofs.digits.put_pattern.Tie as tie
-use Rattle.listing.proofs.digits.put_pattern.Reads as reads
-use Rattle.listing.proofs.digits.put_pattern.Lts as lts
-use Rattle.ieee.proofs.bits.pattern.Reads as pattern-reads
-use Rattle.listing.proofs.digits.put_digits.Reads as put-digits-reads
 
--- src/digits.rt:62:33
 pattern-requires : tie.Need-pattern-requires
-pattern-requires c κs = ?
+pattern-requires c κs = search needs
 
--- src/digits.rt:62:5
 put-digits-requires : tie.Need-put-digits-requires
-put-digits-requires c κs = ?
+put-digits-requires c κs = (omega arith, omega arith, omega arith)
 
--- src/digits.rt:63:5
 add-result : tie.Need-add-result
-add-result c = ?
+add-result c = omega arith
 
--- src/digits.rt:58:1
 same-length : tie.Need-same-length
-same-length c = ?
+same-length c = search needs
 
--- src/digits.rt:58:1
 returns : tie.Need-returns
-returns c = ?
+unfolding patternOf
+returns c =
+    let args = c .before .before .before .before .before .before .args in
+    (refl, c .before .before .put-digits .ensures ∙ ap (λ (b : ℕ). sets (args .out .now) (args .at) (lastDigits 16 16 b)) (c .before .before .before .pattern .ensures))
 
 pub put-pattern-spec : {M : Type 1} → statement M
 put-pattern-spec =
