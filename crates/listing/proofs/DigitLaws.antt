@@ -74,7 +74,7 @@ module _ {out₀ : List ℕ} {at base n v : ℕ} {out : List ℕ} {left rest : �
   writes-end h = let none : left ≡ 0 = omega arith in ap (λ (k : ℕ). sets out at (lastDigits base k rest)) (sym none) ∙ w .written
 
 -- ---- digits that are counted
-count-more : (k v : ℕ) → 10 ≤ v → digitCount (suc k) v ≡ digitCount k (v / 10) + 1
+pub count-more : (k v : ℕ) → 10 ≤ v → digitCount (suc k) v ≡ digitCount k (v / 10) + 1
 unfolding digitCount
 count-more k v h = cond-no _ _ (le-ltb v 10 h)
 
