@@ -5,7 +5,7 @@ use native.Mathlib.Numerals.{add-one}
 use native.Mathlib.Nat.{pow-suc}
 use mathlib.Core.Path.{_≡_, refl, sym, ap, subst, _∙_}
 use mathlib.Core.Bool.{Bool, true, false}
-use mathlib.Core.List.{List, [], _∷_, _++_}
+use mathlib.Core.List.{List, [], _∷_}
 use lib.Dec.{ltb}
 use lib.ListN.{length, set, length-set, length-append}
 use lib.Seq.{sets, set-comm}
@@ -46,7 +46,7 @@ last-turn out at base k w =
     ∙ ap (λ (j : ℕ). set (sets out at xs) (at + j) d) (sym e)
     ∙ sym (sets-append xs (d ∷ []) out at)
 
--- A lent slice in which the last `left` of n digits of v, those of `rest`, are to be written yet.
+-- A lent slice into which n digits of v are written, the last one first: the last `left` digits of `rest` are to come.
 pub record Backwards (out₀ : List ℕ) (at base n v : ℕ) (out : List ℕ) (left rest : ℕ) : Type 0 where
   pub far : left ≤ n
   pub long : length out ≡ length out₀
@@ -63,10 +63,10 @@ module _ {out₀ : List ℕ} {at base n v : ℕ} {out : List ℕ} {left rest : �
         far = omega (arith, w .far);
         long = length-set out (at + (left - 1)) d ∙ w .long;
         written =
-          ap (λ (b : ℕ). sets (set out (at + (left - 1)) b) at (lastDigits base (left - 1) (rest / base))) e
-          ∙ last-turn out at base (left - 1) rest
-          ∙ ap (λ (k : ℕ). sets out at (lastDigits base k rest)) one
-          ∙ w .written;
+            ap (λ (b : ℕ). sets (set out (at + (left - 1)) b) at (lastDigits base (left - 1) (rest / base))) e
+            ∙ last-turn out at base (left - 1) rest
+            ∙ ap (λ (k : ℕ). sets out at (lastDigits base k rest)) one
+            ∙ w .written;
       }
 
   pub writes-end : left ≤ 0 → out ≡ sets out₀ at (lastDigits base n v)

@@ -4,16 +4,16 @@ use native.Mathlib.Omega.{arith}
 use native.Mathlib.Numerals.{add-one}
 use native.Mathlib.Nat.{pow-suc, pow-zero, mod-lt, mod-eq-of-lt, div-add-mod', div-lt-iff-lt-mul}
 use mathlib.Core.Path.{_≡_, refl, sym, ap, ap₂, subst, _∙_}
-use mathlib.Core.Bool.{Bool, true, false, not, _&&_, _||_}
+use mathlib.Core.Bool.{Bool, true, false, not, _&&_}
 use mathlib.Core.List.{List, [], _∷_, _++_}
-use lib.Dec.{T, ltb, leb, eqb}
+use lib.Dec.{T, ltb, leb}
 use lib.ListN.{length, getD, List·getD-append}
 use lib.Ieee.{Float, binary64, fits, ofBits, toBits}
 use lib.Ieee.Bits.{ofBits-toBits, toBits-lt}
 use borrow.Author.Tests.{ltb-true, ltb-false, lt-ltb, le-leb, lt-leb, eq-eqb, ne-eqb}
 use Rattle.laws.proofs.Choice.{cond-yes, cond-no, and-yes, no-and, or-yes, or-no, both}
 use Rattle.text.specs.Lists.{allOf, foldOf}
-use Rattle.text.specs.Fields.{isDigit, written, tens, decimal, numberOf, isHex, hexOf, sixteens, pattern, floatOf}
+use Rattle.text.specs.Fields.{isDigit, written, decimal, numberOf, isHex, hexOf, pattern, floatOf}
 use Rattle.text.specs.declared.fields.Whole.the-variants.{Number}
 use Rattle.text.specs.declared.fields.Real.the-variants.{Value}
 use Rattle.listing.specs.Digits.{digitOf, lastDigits, digitCount, decimalOf, patternOf}
@@ -68,8 +68,7 @@ hex-is d h = go (ltb d 10) refl
     go true e = or-yes _ (digit-is d (ltb-true d 10 e))
     go false e =
         let l : 10 ≤ d = ltb-false d 10 e in
-        let a : (leb 97 (digitOf d) && leb (digitOf d) 102) ≡ true =
-            ap (λ (b : ℕ). leb 97 b && leb b 102) (digit-high d l) ∙ and-yes _ (le-leb 97 (97 + (d - 10)) (omega arith)) ∙ le-leb (97 + (d - 10)) 102 (omega arith) in
+        let a : (leb 97 (digitOf d) && leb (digitOf d) 102) ≡ true = ap (λ (b : ℕ). leb 97 b && leb b 102) (digit-high d l) ∙ and-yes _ (le-leb 97 (97 + (d - 10)) (omega arith)) ∙ le-leb (97 + (d - 10)) 102 (omega arith) in
         or-no _ (letter-no-digit d l) ∙ a
 
 hex-back : (d : ℕ) → d < 16 → hexOf (digitOf d) ≡ d

@@ -1,7 +1,5 @@
-use borrow.Author.Needs.{needs}
 use native.Mathlib.Omega.{arith}
 use native.Mathlib.Nat.{mod-lt}
-use Prim.Native.Nat.{_%_, _<_}
 use Rattle.listing.proofs.DigitLaws.{Backwards, writes-start, writes-more, writes-end}
 use Rattle.listing.proofs.digits.put_digits.Statement.{statement}
 use Rattle.listing.proofs.digits.put_digits.Tie as tie
