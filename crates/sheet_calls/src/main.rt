@@ -14,7 +14,10 @@ fn tens(v: usize, b: u8) -> usize
 
 // The number that six digits say.
 fn length_of(d: [u8; 7]) -> usize {
-    tens(tens(tens(tens(tens(tens(0, d[0]), d[1]), d[2]), d[3]), d[4]), d[5])
+    tens(
+        tens(tens(tens(tens(tens(0, d[0]), d[1]), d[2]), d[3]), d[4]),
+        d[5],
+    )
 }
 
 fn print_problem(p: Problem) {
