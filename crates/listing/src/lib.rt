@@ -1,2 +1,3 @@
 // The lines of a listing.
 mod digits;
+mod lines;

@@ -1,0 +1,19 @@
+// The pieces of a side that a reading takes (contact/features.rs).
+
+// A piece, by its part and by its segment in the part's silhouette.
+pub enum Piece {
+    // A straight segment, read as a face.
+    Segment { part: usize, seg: usize },
+    // An arc, read as a disc.
+    Arc { part: usize, seg: usize },
+    // The convex corner where a segment starts, read as a disc of radius zero.
+    Vertex { part: usize, seg: usize },
+    // The centre of a side's faces.
+    Center { part: usize },
+}
+
+// What a row pairs: a piece of side A and one of side B.
+pub struct Feature {
+    pub a: Piece,
+    pub b: Piece,
+}
