@@ -7,7 +7,7 @@ use mechanism::bearing::MaybeBearing;
 use mechanism::bearing::MaybeSlope;
 use mechanism::features::Piece;
 use mechanism::rows::Row;
-ghost use Rattle.listing.specs.Lines.{Room, Wrote, oneByte, letterField, numberField, floatField, twoFields, placeFields, centreFields, pieceFields, howField, slopeField, rowLine, overlapLine, bearingOf, bearingFields, bearingLine, refusalLine};
+ghost use Rattle.listing.specs.Lines.{Room, Wrote, oneByte, letterField, numberField, floatField, twoFields, floatFields, placeFields, centreFields, pieceFields, howField, slopeField, rowLine, columnsLine, overlapLine, bearingOf, bearingFields, bearingLine, refusalLine};
 
 fn put_byte(out: &mut [u8], at: usize, b: u8) -> usize
     requires { ⌜ Room (now out) at (oneByte b) ⌝ }
@@ -49,6 +49,20 @@ fn two_fields(out: &mut [u8], at: usize, x: f64, y: f64) -> usize
 {
     let k = float_field(out, at, x);
     float_field(out, k, y)
+}
+
+// A float field for each.
+fn float_fields(out: &mut [u8], at: usize, xs: &[f64]) -> usize
+    requires { ⌜ Room (now out) at (floatFields (now xs)) ⌝ }
+    ensures { λ r. ⌜ Wrote (now (out .entry)) at (floatFields (now (xs .entry))) r (now (out .exit)) ⌝ }
+{
+    let mut k = at;
+    let mut i: usize = 0;
+    while i < xs.len() {
+        k = float_field(out, k, xs[i]);
+        i += 1;
+    }
+    k
 }
 
 fn place_fields(out: &mut [u8], at: usize, letter: u8, part: usize, seg: usize) -> usize
@@ -119,6 +133,17 @@ pub(crate) fn row_line(out: &mut [u8], at: usize, r: Row) -> usize
     let k6 = two_fields(out, k5, r.normal.x, r.normal.y);
     let k7 = two_fields(out, k6, r.point.x, r.point.y);
     put_byte(out, k7, b'\n')
+}
+
+// All gradients of a row, then all slips.
+pub(crate) fn columns_line(out: &mut [u8], at: usize, gradients: &[f64], slips: &[f64]) -> usize
+    requires { ⌜ Room (now out) at (columnsLine (now gradients) (now slips)) ⌝ }
+    ensures { λ e. ⌜ Wrote (now (out .entry)) at (columnsLine (now (gradients .entry)) (now (slips .entry))) e (now (out .exit)) ⌝ }
+{
+    let k1 = put_byte(out, at, b'D');
+    let k2 = float_fields(out, k1, gradients);
+    let k3 = float_fields(out, k2, slips);
+    put_byte(out, k3, b'\n')
 }
 
 pub(crate) fn overlap_line(out: &mut [u8], at: usize, pair: usize, x: f64, y: f64) -> usize
