@@ -4,16 +4,18 @@ use mathlib.Core.Bool.{Bool, true, false, false≢true, not, _||_}
 use Prim.Native.Nat.{ℕ, _+_, _<_, _≤_}
 use native.Mathlib.Omega.{arith}
 use lib.Dec.{leb, ltb}
-use borrow.Author.Tests.{leb-true, ltb-false}
-use Rattle.laws.proofs.Choice.{neither, both, not-yes, not-no}
+use borrow.Author.Tests.{leb-true, ltb-false, lt-ltb, le-ltb}
+use Rattle.laws.proofs.Choice.{and-yes, and-no, neither, both, not-yes, not-no}
 use Rattle.laws.proofs.Finite.{any-none, first-none}
 use Rattle.laws.proofs.Sums.{sum-more, sum-mono}
-use Rattle.mechanism.specs.Description.{bodyAt, pairAt, segsOf, startOfPart, sideLength}
-use Rattle.mechanism.specs.Check.{isAccepted, andThen, refusedIf, sideOver, pairOver, partsOver, pairsOver, limitPassed, coordBelow, misplaced, bodiesChecked, directionMissing, partsChecked, pairsChecked, checkOf, FewParts, FewPairs, Few}
+use Rattle.mechanism.specs.Description.{bodyAt, partAt, pairAt, segsOf, startOfPart, sideLength}
+use Rattle.mechanism.specs.Check.{isAccepted, andThen, refusedIf, sideOver, pairOver, partsOver, pairsOver, limitPassed, coordBelow, misplaced, bodiesChecked, directionMissing, partsChecked, partDraws, withDrawn, withRange, pairsChecked, checkOf, FewParts, FewPairs, Few}
 use Rattle.mechanism.specs.Pose.{Rooted}
 use Rattle.mechanism.specs.declared.Parts.{Parts}
 use Rattle.mechanism.specs.declared.Pairs.{Pairs}
 use Rattle.mechanism.specs.declared.Mechanism.{Mechanism}
+use Rattle.mechanism.specs.declared.part.SurfaceRef.{SurfaceRef}
+use Rattle.mechanism.specs.declared.check.Side.{Side}
 use Rattle.mechanism.specs.declared.Problem.{Problem}
 use Rattle.mechanism.specs.declared.Problem.the-variants.{LimitPassed, BodyNotPlaced, NoDirection}
 use Rattle.mechanism.specs.declared.Checked.{Checked}
@@ -76,6 +78,14 @@ few m e =
       parts = few-parts (m .parts) (c .0);
       pairs = few-pairs (m .pairs) (c .1);
     }
+
+-- ---- one range more of a side: of a part that there is, or of none
+module _ (ps : Parts) (pair : ℕ) (s : Side) (r : SurfaceRef) where
+  pub range-of-part : r .part < ps .count → withRange ps pair s r ≡ withDrawn pair s (partDraws (partAt ps (r .part)) r) (partAt ps (r .part) .body)
+  range-of-part h = ap (λ (d : Bool). withDrawn pair s d (partAt ps (r .part) .body)) (and-yes _ (lt-ltb _ _ h))
+
+  pub range-of-none : ps .count ≤ r .part → withRange ps pair s r ≡ withDrawn pair s false 0
+  range-of-none h = ap (λ (d : Bool). withDrawn pair s d (partAt ps (r .part) .body)) (and-no _ (le-ltb _ _ h))
 
 -- ---- where the check of a description ends
 module _ (m : Mechanism) where

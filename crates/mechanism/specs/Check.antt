@@ -172,14 +172,15 @@ unfoldable pub partsChecked : ℕ → Parts → Outlines → Checked
 partsChecked bodies p o = firstRefused (λ i. partChecked bodies o (partAt p i) (startOfPart p i) i) (p .count) 0
 
 -- ---- 8 to 10, pair by pair: side A's ranges one by one, 8 then 9 for each, side B's, then 10
+-- a part draws a range: it holds a segment and stays within the silhouette
+abbrev pub partDraws : Part → SurfaceRef → Bool
+partDraws p r = ltb (r .start) (r .end) && leb (r .end) (silhouetteLength (p .sweep) (p .segs))
+
+-- a range is drawn: there is such a part, and it draws the range
 abbrev pub rangeDrawn : Parts → SurfaceRef → Bool
-rangeDrawn ps r = ltb (r .part) (ps .count) && (ltb (r .start) (r .end) && leb (r .end) (silhouetteLength (partAt ps (r .part) .sweep) (segsOf ps (r .part))))
+rangeDrawn ps r = ltb (r .part) (ps .count) && partDraws (partAt ps (r .part)) r
 
--- the body of a part, of those that there are
-abbrev pub bodyOfPart : Parts → ℕ → ℕ
-bodyOfPart ps i = cond (ltb i (ps .count)) (partAt ps i .body) 0
-
--- the side's body so far, and one range more
+-- the side's body so far, and the body of one range more
 abbrev pub withBody : ℕ → Side → ℕ → Side
 withBody pair Unknown b = On b
 withBody pair (On a) b = cond (eqb a b) (On a) (Wrong (SideOnTwoBodies pair))
@@ -190,8 +191,12 @@ isWrong Unknown = false
 isWrong (On b) = false
 isWrong (Wrong p) = true
 
+-- one range more: whether it is drawn, and its part's body
+abbrev pub withDrawn : ℕ → Side → Bool → ℕ → Side
+withDrawn pair s drawn b = cond (isWrong s) s (cond drawn (withBody pair s b) (Wrong (RangeNotDrawn pair)))
+
 abbrev pub withRange : Parts → ℕ → Side → SurfaceRef → Side
-withRange ps pair s r = cond (isWrong s) s (cond (rangeDrawn ps r) (withBody pair s (bodyOfPart ps (r .part))) (Wrong (RangeNotDrawn pair)))
+withRange ps pair s r = withDrawn pair s (rangeDrawn ps r) (partAt ps (r .part) .body)
 
 -- a side without ranges is not drawn
 abbrev pub sideEnd : ℕ → Side → Side

@@ -3,7 +3,7 @@ ghost use mathlib.Core.Path.{_≡_};
 ghost use mathlib.Core.Bool.{not};
 ghost use Prim.Native.Nat.{_+_, _≤_, _<_};
 ghost use Rattle.mechanism.specs.Description.{startOfPart, silhouetteLength, rangeLength, turnedLength};
-ghost use Rattle.mechanism.specs.Check.{numberOf, placeOf, isAccepted, sideOver, pairOver, partsOver, pairsOver, limitPassed, coordBelow, misplaced, bodiesChecked, noDir, jointLacks, sweepLacks, segLacks, bodiesLack, partsLack, outlinesLack, directionMissing, pointFinite, samePoint, segOpen, outlineOpen, partChecked, partsChecked, rangeDrawn, bodyOfPart, isWrong, withBody, withRange, sideEnd, sideBody, sidesChecked, pairsChecked, checkOf, FewParts, FewPairs, Few};
+ghost use Rattle.mechanism.specs.Check.{numberOf, placeOf, isAccepted, sideOver, pairOver, partsOver, pairsOver, limitPassed, coordBelow, misplaced, bodiesChecked, noDir, jointLacks, sweepLacks, segLacks, bodiesLack, partsLack, outlinesLack, directionMissing, pointFinite, samePoint, segOpen, outlineOpen, partChecked, partsChecked, partDraws, isWrong, withBody, withDrawn, sideEnd, sideBody, sidesChecked, pairsChecked, checkOf, FewParts, FewPairs, Few};
 use super::Bodies;
 use super::Body;
 use super::Checked;
@@ -421,19 +421,13 @@ fn turned_length(n: usize) -> usize
     if n == 0 { 0 } else { (n - 1) + (n - 1) }
 }
 
-// Whether a range names a part, holds a segment and stays within the silhouette.
-fn range_drawn(ps: Parts, r: SurfaceRef) -> bool
-    requires { ⌜ FewParts ps ⌝ }
-    ensures { λ x. ⌜ x ≡ rangeDrawn ps r ⌝ }
+// Whether a range holds a segment of the part's silhouette and stays within it.
+fn part_draws(p: Part, r: SurfaceRef) -> bool
+    requires { ⌜ p .segs ≤ 48 ⌝ }
+    ensures { λ x. ⌜ x ≡ partDraws p r ⌝ }
 {
-    let i = r.part;
-    if i < ps.count {
-        let q = ps.part[i];
-        let s = q.sweep;
-        (r.start < r.end) & (r.end <= silhouette_length(s, q.segs))
-    } else {
-        false
-    }
+    let s = p.sweep;
+    (r.start < r.end) & (r.end <= silhouette_length(s, p.segs))
 }
 
 fn is_wrong(s: Side) -> bool
@@ -462,31 +456,25 @@ fn with_body(pair: usize, s: Side, body: usize) -> Side
     }
 }
 
-// The body of the part that a range names.
-fn body_of(ps: Parts, r: SurfaceRef) -> usize
-    requires { ⌜ ps .count ≤ 32 ⌝ }
-    ensures { λ x. ⌜ x ≡ bodyOfPart ps (r .part) ⌝ }
-{
-    let i = r.part;
-    if i < ps.count {
-        let q = ps.part[i];
-        q.body
-    } else {
-        0
-    }
-}
-
-fn with_range(ps: Parts, pair: usize, s: Side, r: SurfaceRef) -> Side
-    requires { ⌜ FewParts ps ⌝ }
-    ensures { λ x. ⌜ x ≡ withRange ps pair s r ⌝ }
+// The side's body so far with one range more: whether it is drawn, and the body of its part.
+fn with_drawn(pair: usize, s: Side, drawn: bool, body: usize) -> Side
+    ensures { λ x. ⌜ x ≡ withDrawn pair s drawn body ⌝ }
 {
     if is_wrong(s) {
         return s;
     }
-    if range_drawn(ps, r) {
-        return with_body(pair, s, body_of(ps, r));
+    if drawn {
+        return with_body(pair, s, body);
     }
     Side::Wrong(Problem::RangeNotDrawn { pair })
+}
+
+// A range more, of the part p.
+fn with_part(pair: usize, s: Side, p: Part, r: SurfaceRef) -> Side
+    requires { ⌜ p .segs ≤ 48 ⌝ }
+    ensures { λ x. ⌜ x ≡ withDrawn pair s (partDraws p r) (p .body) ⌝ }
+{
+    with_drawn(pair, s, part_draws(p, r), p.body)
 }
 
 fn side_end(pair: usize, s: Side) -> Side
@@ -504,12 +492,20 @@ fn side_body(ps: Parts, pair: usize, u: Surface) -> Side
     ensures { λ r. ⌜ r ≡ sideBody ps pair u ⌝ }
 {
     let n = u.count;
+    let parts = ps.count;
     let mut s = Side::Unknown;
     let mut i: usize = 0;
     while i < n {
         let r = u.range[i];
-        s = with_range(ps, pair, s, r);
+        let k = r.part;
         i += 1;
+        if k < parts {
+            let p = ps.part[k];
+            s = with_part(pair, s, p, r);
+        } else {
+            // No such part, so that the range is not drawn.
+            s = with_drawn(pair, s, false, 0);
+        }
     }
     side_end(pair, s)
 }
