@@ -4,26 +4,23 @@ use native.Mathlib.Omega.{arith}
 use mathlib.Core.Path.{_≡_, refl, sym, ap, ap₂, _∙_}
 use mathlib.Core.Bool.{Bool, true, false, true≢false, cond, _||_}
 use mathlib.Core.List.{List, [], _∷_, _++_}
-use lib.Dec.{ltb, leb, eqb}
+use lib.Dec.{ltb, eqb}
 use lib.Ieee.{Float}
 use native.Mathlib.Numerals.{add-one}
 use lib.ListN.{length, getD, take, drop, replicate, length-append, drop-of-length-le}
 use lib.Seq.{length-sets, sets-eq, take-append-seam, drop-cons, length-take-le, getD-take}
-use borrow.Author.Tests.{lt-ltb, le-ltb, ltb-true, ltb-false, eq-eqb, ne-eqb}
+use borrow.Author.Tests.{lt-ltb, le-ltb, ltb-true, ltb-false, ne-eqb}
 use Rattle.laws.specs.Loops.{Writing}
 use Rattle.laws.proofs.Choice.{neither, cond-yes, cond-no}
 use Rattle.laws.proofs.Writing.{ends, ends-count}
 use Rattle.mechanism.specs.Description.{bodyAt}
-use Rattle.mechanism.specs.Pose.{columnOf, columnIn, columnsUp, lastColumn, noColumn, noPlacement, noMove, columnsOf, columnsIn, placementsOf, posedOf, placementAt, worldOf, askedOf, jacobianOf, bodyNumbered}
+use Rattle.mechanism.specs.Pose.{columnOf, columnIn, columnsUp, lastColumn, noColumn, noPlacement, noMove, columnsIn, placementsOf, posedOf, bodyNumbered}
 use Rattle.mechanism.specs.declared.Bodies.{Bodies}
 use Rattle.mechanism.specs.declared.Joint.{Joint}
 use Rattle.mechanism.specs.declared.Joint.the-variants.{Ground, Revolute, Prismatic}
 use Rattle.mechanism.specs.declared.pose.Placement.{Placement}
 use Rattle.mechanism.specs.declared.pose.Pose.{Pose}
 use Rattle.mechanism.specs.declared.pose.Posed.{Posed}
-use Rattle.mechanism.specs.declared.pose.MaterialPoint.{MaterialPoint}
-use Rattle.mechanism.specs.declared.pose.PointAnswer.the-variants.{IsPoint, NoPoint}
-use Rattle.mechanism.specs.declared.Problem.the-variants.{PoseNotMatching, NoSuchThing}
 use Rattle.mechanism.specs.declared.Checked.the-variants.{Accepted}
 use Rattle.mechanism.specs.declared.pose.Column.{Column}
 use Rattle.mechanism.specs.declared.pose.Columns.{Columns}
@@ -139,7 +136,7 @@ pub numbered : (b : Bodies) (n : ℕ) → (n ≡ 0 → ⊥) → bodyAt b (n - 1)
 numbered b zero h = absurd (h refl)
 numbered b (suc i) h = let k : suc i - 1 ≡ i = omega arith in ap (bodyAt b) k
 
--- ---- jacobian_column
+-- ---- column_for
 pub columns-fit : (k : Columns) (l : List Column) → k ≡ columnsIn l → length l ≤ 15 → (k .count ≤ 15) × (k .count ≤ length (k .column))
 columns-fit k l e h =
     let n = ap (λ (x : Columns). x .count) e in
@@ -148,14 +145,3 @@ columns-fit k l e h =
 
 pub last-of : (c : ℕ) (k : Columns) (l : List Column) → k ≡ columnsIn l → length l ≤ 15 → lastColumn c noMove (take (k .count) (k .column)) ≡ lastColumn c noMove l
 last-of c k l e h = ap (λ (x : Columns). lastColumn c noMove (take (x .count) (x .column))) e ∙ ap (lastColumn c noMove) (taken l h)
-
-module _ (b : Bodies) (q : Pose) (p : MaterialPoint) (c : ℕ) where
-  pub asked-other : (q .count ≡ b .count + 1 → ⊥) → jacobianOf (askedOf b q p c) b q p c ≡ NoPoint PoseNotMatching
-  asked-other h = rw (ne-eqb (q .count) (b .count + 1) h)
-
-  pub asked-none : q .count ≡ b .count + 1 → (ltb (b .count) (p .body) || leb (b .coords) c) ≡ true → jacobianOf (askedOf b q p c) b q p c ≡ NoPoint NoSuchThing
-  asked-none h e = rw (eq-eqb (q .count) (b .count + 1) h, e)
-
-  pub asked-yes : q .count ≡ b .count + 1 → (ltb (b .count) (p .body) || leb (b .coords) c) ≡ false
-      → jacobianOf (askedOf b q p c) b q p c ≡ IsPoint (lastColumn c noMove (columnsOf b q (worldOf (placementAt q (p .body)) (p .at)) (p .body)))
-  asked-yes h e = rw (eq-eqb (q .count) (b .count + 1) h, e)

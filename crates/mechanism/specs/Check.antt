@@ -226,6 +226,15 @@ checkOf m =
     (andThen (partsChecked (m .bodies .count) (m .parts) (m .outlines))
     (pairsChecked (m .parts) (m .pairs)))))
 
+-- ---- document 01's list for a call on a description: 3 to 10, then 11, 12 and 13 where the call asks for them
+-- fits: the pose has one entry a coordinate, or one placement a body; known: everything that is named is there; room: the lent rows have room. Where a call does not ask for one of them, it is true.
+abbrev pub callChecked : Mechanism → (fits known room : Bool) → Checked
+callChecked m fits known room =
+    andThen (checkOf m)
+    (andThen (refusedIf (not fits) PoseNotMatching)
+    (andThen (refusedIf (not known) NoSuchThing)
+    (refusedIf (not room) TooFewRows)))
+
 -- ---- what is left where no limit is passed
 pub record FewParts (p : Parts) : Type 0 where
   pub count : p .count ≤ 32

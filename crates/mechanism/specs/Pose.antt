@@ -1,7 +1,7 @@
 -- mechanism/pose.rs, operation by operation; a pose takes for each coordinate its value, sine and cosine. Definitions only.
 use Prim.Native.Nat.{ℕ, zero, suc, _+_, _<_, _≤_}
 use mathlib.Core.Path.{_≡_}
-use mathlib.Core.Bool.{Bool, true, not, cond, _&&_, _||_}
+use mathlib.Core.Bool.{Bool, true, cond, _&&_, _||_}
 use mathlib.Core.List.{List, [], _∷_, _++_}
 use lib.Dec.{ltb, leb, eqb}
 use lib.ListN.{length, getD, set, replicate}
@@ -13,14 +13,14 @@ use Rattle.ieee.specs.Operators.{_⊕_, _⊖_, _⊗_}
 use Rattle.geometry.specs.Geometry.{vectorOf}
 use Rattle.geometry.specs.declared.Point.{Point}
 use Rattle.mechanism.specs.Description.{noPoint, noBody, bodyAt}
-use Rattle.mechanism.specs.Check.{andThen, refusedIf, coordBelow, checkOf}
+use Rattle.mechanism.specs.Check.{coordBelow, callChecked}
 use Rattle.mechanism.specs.declared.Body.{Body}
 use Rattle.mechanism.specs.declared.Joint.{Joint}
 use Rattle.mechanism.specs.declared.Joint.the-variants.{Ground, Revolute, Prismatic}
 use Rattle.mechanism.specs.declared.Bodies.{Bodies}
 use Rattle.mechanism.specs.declared.Mechanism.{Mechanism}
 use Rattle.mechanism.specs.declared.Problem.{Problem}
-use Rattle.mechanism.specs.declared.Problem.the-variants.{PoseNotMatching, NoSuchThing}
+use Rattle.mechanism.specs.declared.Problem.the-variants.{NoSuchThing}
 use Rattle.mechanism.specs.declared.Checked.{Checked}
 use Rattle.mechanism.specs.declared.Checked.the-variants.{Accepted, Refused}
 use Rattle.mechanism.specs.declared.pose.Placement.{Placement}
@@ -99,9 +99,9 @@ pub record Rooted (b : Bodies) (coords : ℕ) : Type 0 where
   pub below : (i : ℕ) → i < b .count → bodyAt b i .parent ≤ i
   pub driven : (i : ℕ) → i < b .count → coordBelow coords (bodyAt b i .joint) ≡ true
 
--- 11: the pose has not one entry a coordinate
+-- 3 to 11: one entry a coordinate
 abbrev pub poseChecked : Mechanism → List (List Float) → Checked
-poseChecked m q = andThen (checkOf m) (refusedIf (not (eqb (length q) (m .bodies .coords))) PoseNotMatching)
+poseChecked m q = callChecked m (eqb (length q) (m .bodies .coords)) true true
 
 -- a refusal comes with no placements
 abbrev pub noPose : Problem → Posed
@@ -148,10 +148,6 @@ lastColumn c found [] = found
 lastColumn c found (k ∷ ks) = lastColumn c (cond (eqb (k .coord) c) (k .column) found) ks
 
 -- ---- looking up
--- 11 of a pose as a value: not one placement a body
-abbrev pub poseMatches : Bodies → Pose → Checked
-poseMatches b q = refusedIf (not (eqb (q .count) (b .count + 1))) PoseNotMatching
-
 -- 12: the pose has no such body
 abbrev pub noSuchBody : Pose → ℕ → Bool
 noSuchBody q body = ltb 16 (q .count) || leb (q .count) body
@@ -165,19 +161,18 @@ placementOf q body = cond (noSuchBody q body) (NoPlacement NoSuchThing) (IsPlace
 unfoldable pub pointOf : Pose → MaterialPoint → PointAnswer
 pointOf q p = cond (noSuchBody q (p .body)) (NoPoint NoSuchThing) (IsPoint (worldOf (placementAt q (p .body)) (p .at)))
 
--- jacobian_column: 11, then 12 for the body or the coordinate
-abbrev pub askedOf : Bodies → Pose → MaterialPoint → ℕ → Checked
-askedOf b q p c = andThen (poseMatches b q) (refusedIf (ltb (b .count) (p .body) || leb (b .coords) c) NoSuchThing)
-
--- 3 to 10 come first
+-- jacobian_column, 3 to 12: one placement a body; the body and the coordinate are there
 abbrev pub jacobianChecked : Mechanism → Pose → MaterialPoint → ℕ → Checked
-jacobianChecked m q p c = andThen (checkOf m) (askedOf (m .bodies) q p c)
+jacobianChecked m q p c = callChecked m (eqb (q .count) (m .bodies .count + 1)) (leb (p .body) (m .bodies .count) && ltb c (m .bodies .coords)) true
+
+abbrev pub columnFor : Bodies → Pose → MaterialPoint → ℕ → Point
+columnFor b q p c = lastColumn c noMove (columnsOf b q (worldOf (placementAt q (p .body)) (p .at)) (p .body))
 
 abbrev pub jacobianOf : Checked → Bodies → Pose → MaterialPoint → ℕ → PointAnswer
 jacobianOf (Refused x) b q p c = NoPoint x
-jacobianOf Accepted b q p c = IsPoint (lastColumn c noMove (columnsOf b q (worldOf (placementAt q (p .body)) (p .at)) (p .body)))
+jacobianOf Accepted b q p c = IsPoint (columnFor b q p c)
 
--- Mechanism::body: 3 to 10, then 12; the ground is body 0
+-- Mechanism::body; the ground is body 0
 abbrev pub bodyNumbered : Bodies → ℕ → Body
 bodyNumbered b zero = noBody
 bodyNumbered b (suc i) = bodyAt b i
@@ -186,5 +181,6 @@ abbrev pub bodyAnswer : Checked → Bodies → ℕ → BodyAnswer
 bodyAnswer (Refused x) b n = NoBody x
 bodyAnswer Accepted b n = IsBody (bodyNumbered b n)
 
+-- 3 to 10, then 12: the body is there
 abbrev pub bodyCheckedAt : Mechanism → ℕ → Checked
-bodyCheckedAt m n = andThen (checkOf m) (refusedIf (ltb (m .bodies .count) n) NoSuchThing)
+bodyCheckedAt m n = callChecked m true (leb n (m .bodies .count)) true

@@ -4,7 +4,7 @@ ghost use mathlib.Core.Bool.{true};
 ghost use Prim.Native.Nat.{_+_, _≤_, _<_};
 ghost use lib.ListN.{length, take};
 ghost use Rattle.mechanism.specs.Check.{coordBelow};
-ghost use Rattle.mechanism.specs.Pose.{rotateOf, worldOf, isWorld, hinged, slid, placedOf, placementsOf, poseChecked, posedOf, noPose, columnOf, columnIn, columnsOf, columnsIn, noMove, lastColumn, placementAt, placementOf, pointOf, askedOf, jacobianChecked, jacobianOf, bodyNumbered, bodyAnswer, bodyCheckedAt, Rooted};
+ghost use Rattle.mechanism.specs.Pose.{rotateOf, worldOf, isWorld, hinged, slid, placedOf, placementsOf, poseChecked, posedOf, noPose, columnOf, columnIn, columnsOf, columnsIn, noMove, lastColumn, placementAt, placementOf, pointOf, columnFor, jacobianChecked, jacobianOf, bodyNumbered, bodyAnswer, bodyCheckedAt, Rooted};
 use super::Bodies;
 use super::Body;
 use super::Checked;
@@ -294,18 +294,13 @@ fn placement_at(q: Pose, body: usize) -> Placement
     q.placement[body]
 }
 
-fn jacobian(b: Bodies, q: Pose, p: MaterialPoint, coord: usize) -> PointAnswer
-    requires { ⌜ b .count ≤ 15 ⌝ }
-    ensures { λ r. ⌜ r ≡ jacobianOf (askedOf b q p coord) b q p coord ⌝ }
+// How fast a material point of a body that is there moves with a coordinate.
+fn column_for(b: Bodies, q: Pose, p: MaterialPoint, coord: usize) -> Point
+    requires { ⌜ p .body < 16 ⌝ }
+    ensures { λ r. ⌜ r ≡ columnFor b q p coord ⌝ }
 {
-    if q.count != b.count + 1 {
-        return PointAnswer::NoPoint(Problem::PoseNotMatching);
-    }
-    if (b.count < p.body) | (b.coords <= coord) {
-        return PointAnswer::NoPoint(Problem::NoSuchThing);
-    }
     let at = placement_at(q, p.body).world(p.at);
-    PointAnswer::IsPoint(last_column(columns_at(b, q, p.body, at), coord))
+    last_column(columns_at(b, q, p.body, at), coord)
 }
 
 impl Pose {
@@ -376,7 +371,13 @@ impl Mechanism {
             Checked::Refused(x) => PointAnswer::NoPoint(x),
             Checked::Accepted => {
                 let b = self.bodies;
-                jacobian(b, q, p, coord)
+                if q.count != b.count + 1 {
+                    return PointAnswer::NoPoint(Problem::PoseNotMatching);
+                }
+                if (p.body <= b.count) & (coord < b.coords) {
+                    return PointAnswer::IsPoint(column_for(b, q, p, coord));
+                }
+                PointAnswer::NoPoint(Problem::NoSuchThing)
             }
         }
     }

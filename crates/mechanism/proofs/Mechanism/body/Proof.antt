@@ -1,6 +1,6 @@
 use native.Mathlib.Omega.{arith}
 use mathlib.Core.Path.{sym, _∙_}
-use borrow.Author.Tests.{lt-ltb, le-ltb}
+use borrow.Author.Tests.{lt-leb, le-leb}
 use Rattle.mechanism.proofs.Checks.{accepted-few}
 use borrow.Author.Needs.{needs}
 use Rattle.mechanism.proofs.Mechanism.body.Statement.{statement}
@@ -16,7 +16,7 @@ enum-told : tie.Need-enum-told
 enum-told c = search needs
 
 returns : tie.Need-returns
-returns c = simp (sym (c .before .before .before .before .before .check .ensures) ∙ c .before .before .before .enum-told .given .1, lt-ltb _ _ (c .if1 .taken))
+returns c = simp (sym (c .before .before .before .before .before .check .ensures) ∙ c .before .before .before .enum-told .given .1, lt-leb _ _ (c .if1 .taken))
 
 body-numbered-requires : tie.Need-body-numbered-requires
 body-numbered-requires c κs =
@@ -27,7 +27,7 @@ returns-2 : tie.Need-returns-2
 returns-2 c = simp (sym (c .before .before .before .check .ensures) ∙ c .before .c .given .1)
 
 returns-3 : tie.Need-returns-3
-returns-3 c = simp (sym (c .before .before .before .before .before .before .check .ensures) ∙ c .before .before .before .before .enum-told .given .1, le-ltb _ _ (c .before .if1 .left), c .body-numbered .ensures)
+returns-3 c = simp (sym (c .before .before .before .before .before .before .check .ensures) ∙ c .before .before .before .before .enum-told .given .1, le-leb _ _ (c .before .if1 .left), c .body-numbered .ensures)
 
 pub body-spec : {M : Type 1} → statement M
 body-spec =
