@@ -1,4 +1,4 @@
--- Checks one after the other, and what a description that passes them is known to be. Assumes nothing.
+-- Checks one after the other, and what a description that passes them is known to be. Worked is named so that the worked descriptions are computed before: a wrong definition then fails at a plain example. Assumes nothing.
 use mathlib.Core.Path.{_≡_, refl, sym, ap, _∙_}
 use mathlib.Core.Bool.{Bool, true, false, false≢true, not, _||_}
 use Prim.Native.Nat.{ℕ, _+_, _<_, _≤_}
@@ -8,6 +8,7 @@ use borrow.Author.Tests.{leb-true, ltb-false, lt-ltb, le-ltb}
 use Rattle.laws.proofs.Choice.{and-yes, and-no, neither, both, not-yes, not-no}
 use Rattle.laws.proofs.Finite.{any-none, first-none}
 use Rattle.laws.proofs.Sums.{sum-more, sum-mono}
+use Rattle.mechanism.proofs.Worked as worked
 use Rattle.mechanism.specs.Description.{bodyAt, partAt, pairAt, segsOf, startOfPart, sideLength}
 use Rattle.mechanism.specs.Check.{isAccepted, andThen, refusedIf, sideOver, pairOver, partsOver, pairsOver, limitPassed, coordBelow, misplaced, bodiesChecked, directionMissing, partsChecked, partDraws, withDrawn, withRange, pairsChecked, checkOf, FewParts, FewPairs, Few}
 use Rattle.mechanism.specs.Pose.{Rooted}

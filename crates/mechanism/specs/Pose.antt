@@ -165,6 +165,7 @@ pointOf q p = cond (noSuchBody q (p .body)) (NoPoint NoSuchThing) (IsPoint (worl
 abbrev pub jacobianChecked : Mechanism → Pose → MaterialPoint → ℕ → Checked
 jacobianChecked m q p c = callChecked m (eqb (q .count) (m .bodies .count + 1)) (leb (p .body) (m .bodies .count) && ltb c (m .bodies .coords)) true
 
+-- how fast a material point moves in the world with a coordinate
 abbrev pub columnFor : Bodies → Pose → MaterialPoint → ℕ → Point
 columnFor b q p c = lastColumn c noMove (columnsOf b q (worldOf (placementAt q (p .body)) (p .at)) (p .body))
 
