@@ -25,7 +25,6 @@ use Rattle.mechanism.specs.declared.part.Sweep.{Sweep}
 use Rattle.mechanism.specs.declared.part.Sweep.the-variants.{Extruded, Revolved}
 use Rattle.mechanism.specs.declared.part.SurfaceRef.{SurfaceRef}
 use Rattle.mechanism.specs.declared.pair.Surface.{Surface}
-use Rattle.mechanism.specs.declared.pair.ContactPair.{ContactPair}
 use Rattle.mechanism.specs.declared.pair.PairGeometry.the-variants.{Features}
 use Rattle.mechanism.specs.declared.Problem.the-variants.{BodyNotPlaced, PartOnNoSuchBody, OutlineNotClosed, RangeNotDrawn, PairOnOneBody, PoseNotMatching, NoSuchThing, TooFewRows}
 use Rattle.mechanism.specs.declared.Checked.the-variants.{Accepted, Refused}

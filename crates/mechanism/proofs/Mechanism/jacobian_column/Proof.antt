@@ -1,6 +1,5 @@
 use native.Mathlib.Omega.{arith}
 use mathlib.Core.Path.{sym, _∙_}
-use lib.Dec.{ltb, leb}
 use borrow.Author.Tests.{leb-true, eq-eqb, ne-eqb}
 use Rattle.laws.proofs.Choice.{both}
 use Rattle.mechanism.proofs.Checks.{accepted-few}
