@@ -1,5 +1,5 @@
 -- What `Dir::new` has answered, it answers again: the two floats of a direction that it gave have a length that is finite and above zero. Nothing is asked of the floats. Assumes nothing.
-use mathlib.Core.Path.{_≡_, refl, sym, ap, subst}
+use mathlib.Core.Path.{_≡_, refl, ap, subst}
 use mathlib.Core.Bool.{Bool, true, false, false≢true, cond, _&&_}
 use lib.Ieee.{Float, lt}
 use Rattle.laws.proofs.Choice.{cond-yes, both, holds}
