@@ -126,23 +126,36 @@ pub struct Drawn {
     pub points: [Point; 8],
 }
 
+// The two points that a segment runs between.
+struct Ends {
+    start: Point,
+    end: Point,
+}
+
+// A line's two points, or the two points of an arc's circle.
+fn ends_of(s: Seg) -> Ends
+    ensures { λ r. ⌜ (r .start ≡ startOf s) × (r .end ≡ endOf s) ⌝ }
+{
+    match s {
+        Seg::Line { a, b } => Ends { start: a, end: b },
+        Seg::Arc { c, r, from, to } => Ends {
+            start: on_circle(c, r, from),
+            end: on_circle(c, r, to),
+        },
+    }
+}
+
 impl Seg {
     pub fn start(self) -> Point
         ensures { λ r. ⌜ r ≡ startOf self ⌝ }
     {
-        match self {
-            Seg::Line { a, b: _ } => a,
-            Seg::Arc { c, r, from, to: _ } => on_circle(c, r, from),
-        }
+        ends_of(self).start
     }
 
     pub fn end(self) -> Point
         ensures { λ r. ⌜ r ≡ endOf self ⌝ }
     {
-        match self {
-            Seg::Line { a: _, b } => b,
-            Seg::Arc { c, r, from: _, to } => on_circle(c, r, to),
-        }
+        ends_of(self).end
     }
 
     pub fn drawn(self) -> Drawn
@@ -153,32 +166,28 @@ impl Seg {
                 count: 1,
                 points: [a; 8],
             },
-            Seg::Arc { c, r, from, to } => drawn_arc(c, r, from, to),
+            Seg::Arc { c, r, from, to } => {
+                let d4 = from.halfway_to(to);
+                let d2 = from.halfway_to(d4);
+                let d6 = d4.halfway_to(to);
+                let d1 = from.halfway_to(d2);
+                let d3 = d2.halfway_to(d4);
+                let d5 = d4.halfway_to(d6);
+                let d7 = d6.halfway_to(to);
+                Drawn {
+                    count: 8,
+                    points: [
+                        on_circle(c, r, from),
+                        on_circle(c, r, d1),
+                        on_circle(c, r, d2),
+                        on_circle(c, r, d3),
+                        on_circle(c, r, d4),
+                        on_circle(c, r, d5),
+                        on_circle(c, r, d6),
+                        on_circle(c, r, d7),
+                    ],
+                }
+            }
         }
-    }
-}
-
-fn drawn_arc(c: Point, r: f64, from: Dir, to: Dir) -> Drawn
-    ensures { λ p. ⌜ p ≡ drawnOf (Seg.Arc c r from to) ⌝ }
-{
-    let d4 = from.halfway_to(to);
-    let d2 = from.halfway_to(d4);
-    let d6 = d4.halfway_to(to);
-    let d1 = from.halfway_to(d2);
-    let d3 = d2.halfway_to(d4);
-    let d5 = d4.halfway_to(d6);
-    let d7 = d6.halfway_to(to);
-    Drawn {
-        count: 8,
-        points: [
-            on_circle(c, r, from),
-            on_circle(c, r, d1),
-            on_circle(c, r, d2),
-            on_circle(c, r, d3),
-            on_circle(c, r, d4),
-            on_circle(c, r, d5),
-            on_circle(c, r, d6),
-            on_circle(c, r, d7),
-        ],
     }
 }

@@ -14,3 +14,4 @@ pub mod Monotone
 pub mod TotalOrder
 pub mod Worked
 pub mod Arithmetic
+pub mod Bounds
