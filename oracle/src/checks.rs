@@ -17,6 +17,15 @@ const LENT_ROWS: usize = 256;
 
 /// The mechanism of a sheet, or the first refusal that applies.
 pub fn mechanism(sheet: &Sheet) -> Result<Mechanism, Refusal> {
+    let mechanism = described(sheet)?;
+    if row_bound(&mechanism) > LENT_ROWS {
+        return Err(placeless(13));
+    }
+    Ok(mechanism)
+}
+
+/// The same with 3 to 11 alone.
+pub fn described(sheet: &Sheet) -> Result<Mechanism, Refusal> {
     check_counts(sheet)?;
     check_bodies(sheet)?;
     let bodies = bodies(sheet).ok_or(placeless(5))?;
@@ -27,9 +36,6 @@ pub fn mechanism(sheet: &Sheet) -> Result<Mechanism, Refusal> {
         .map_err(refusal)?;
     if sheet.entries.len() != usize::from(sheet.coords) {
         return Err(placeless(11));
-    }
-    if row_bound(&mechanism) > LENT_ROWS {
-        return Err(placeless(13));
     }
     Ok(mechanism)
 }

@@ -14,4 +14,5 @@ pub mod Monotone
 pub mod TotalOrder
 pub mod Worked
 pub mod Arithmetic
+pub mod MinRoot
 pub mod Bounds

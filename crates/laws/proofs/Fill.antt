@@ -5,10 +5,10 @@ use native.Mathlib.Omega.{arith}
 use native.Mathlib.Nat.{add-zero, add-suc, suc-add}
 use mathlib.Core.Path.{_≡_, refl, sym, ap, _∙_}
 use mathlib.Core.List.{List, [], _∷_, _++_, map, append-assoc, append-nil, reverse, reverse-append}
-use lib.ListN.{length, take, drop, getD, set, length-set}
-use lib.Seq.{take-suc-set, take-suc, drop-cons}
+use lib.ListN.{length, take, drop, getD, set, replicate, length-set, length-replicate}
+use lib.Seq.{take-suc-set, take-suc, drop-cons, sets-eq, length-sets, take-append-seam, getD-take}
 use Rattle.laws.specs.Loops.{joinIn}
-use Rattle.laws.specs.Fill.{Filling, indexes, range}
+use Rattle.laws.specs.Fill.{Filling, filled, indexes, range}
 use Rattle.laws.proofs.Loops.{turn, done}
 
 module _ {A : Type 0} {cap : ℕ} {all : List A} where
@@ -27,6 +27,23 @@ module _ {A : Type 0} {cap : ℕ} {all : List A} where
 
   pub fill-end : {arr : List A} {n : ℕ} {rest : List A} → rest ≡ [] → Filling cap all arr n rest → take n arr ≡ all
   fill-end {arr} {n} e w = sym (append-nil (take n arr)) ∙ ap (λ (l : List A). take n arr ++ l) (sym e) ∙ w .held
+
+-- ---- an array that holds a list from its front
+module _ {A : Type 0} (n : ℕ) (d : A) (l : List A) where
+  pub length-filled : length (filled n d l) ≡ n
+  length-filled = length-sets (replicate n d) 0 l ∙ length-replicate n d
+
+  pub filled-is : length l ≤ n → filled n d l ≡ l ++ drop (length l) (replicate n d)
+  filled-is h =
+      let k = length-replicate n d in
+      let e : 0 + length l ≡ length l = omega arith in
+      sets-eq l (replicate n d) 0 (omega arith) ∙ ap (λ (i : ℕ). l ++ drop i (replicate n d)) e
+
+  pub take-filled : length l ≤ n → take (length l) (filled n d l) ≡ l
+  take-filled h = ap (take (length l)) (filled-is h) ∙ take-append-seam l (drop (length l) (replicate n d))
+
+  pub getD-filled : (i : ℕ) (e : A) → length l ≤ n → i < length l → getD (filled n d l) i e ≡ getD l i e
+  getD-filled i e h k = sym (getD-take (length l) (filled n d l) i e k) ∙ ap (λ (m : List A). getD m i e) (take-filled h)
 
 -- ---- lists of indexes
 pub range-turn : (a e : ℕ) → a < e → range a e ≡ a ∷ range (a + 1) e

@@ -32,6 +32,10 @@ module _ (p : ℕ → Bool) where
   pub any-none : (k s j : ℕ) → anyIn p k s ≡ false → s ≤ j → j < s + k → p j ≡ false
   any-none k s j e h l = is-false (p j) (λ t. subst T e (any-of k s j h l t))
 
+  -- where each fails, none passes
+  pub any-all : (k s : ℕ) → ((j : ℕ) → s ≤ j → j < s + k → p j ≡ false) → anyIn p k s ≡ false
+  any-all k s h = is-false (anyIn p k s) (λ t. let r = any-ex k s t in subst T (h (r .0) (r .1) (r .2)) (r .3))
+
   -- ---- a list of the indexes that pass
   pub filter-length : (k s : ℕ) → length (filterIn p k s) ≤ k
   unfolding filterIn

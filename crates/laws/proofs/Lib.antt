@@ -1,5 +1,6 @@
 pub mod Choice
 pub mod Loops
+pub mod Lists
 pub mod Sums
 pub mod Writing
 pub mod Fill

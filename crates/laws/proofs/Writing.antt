@@ -1,16 +1,23 @@
 -- The laws of `Writing`: a lent slice that a loop writes from a place on, the rest of it unchanged. Assumes nothing.
-use Prim.Native.Nat.{ℕ, suc, _+_}
+use Prim.Native.Nat.{ℕ, suc, _+_, _≤_}
 use native.Mathlib.Numerals.{add-one}
+use native.Mathlib.Omega.{arith}
 use native.Mathlib.Nat.{add-zero, add-suc, suc-add, add-assoc}
 use mathlib.Core.Path.{_≡_, refl, sym, ap, subst, subst₂, _∙_}
 use mathlib.Core.List.{List, [], _∷_, _++_, map, map-append}
-use lib.ListN.{length, set, length-set, length-append, length-map}
-use lib.Seq.{sets, length-sets}
+use lib.ListN.{length, set, take, drop, length-set, length-append, length-map}
+use lib.Seq.{sets, length-sets, sets-eq, take-at}
 use Rattle.laws.specs.Loops.{Writing}
 
 pub sets-append {ℓ} : {A : Type ℓ} (xs ys l : List A) (i : ℕ) → sets l i (xs ++ ys) ≡ sets (sets l i xs) (i + length xs) ys
 sets-append [] ys l i = ap (λ (k : ℕ). sets l k ys) (sym (add-zero i))
 sets-append (x ∷ xs) ys l i = sets-append xs ys (set l i x) (suc i) ∙ ap (λ (k : ℕ). sets (sets (set l i x) (suc i) xs) k ys) (suc-add i (length xs) ∙ sym (add-suc i (length xs)))
+
+-- what is written to the front of a list that is long enough is taken from it again
+pub sets-taken : {A : Type 0} (vs l : List A) (n : ℕ) → length vs ≡ n → length vs ≤ length l → take n (sets l 0 vs) ≡ vs
+sets-taken vs l n e h =
+    let k : 0 + length vs ≤ length l = omega arith in
+    ap (take n) (sets-eq vs l 0 k) ∙ take-at vs (drop (0 + length vs) l) n e
 
 module _ {A : Type 0} {out₀ : List A} {at₀ : ℕ} {all : List A} where
   pub starts : {rest : List A} → rest ≡ all → Writing out₀ at₀ all out₀ at₀ rest

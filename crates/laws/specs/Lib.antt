@@ -1,3 +1,4 @@
 pub mod Loops
 pub mod Fill
 pub mod Floats
+pub mod Lists

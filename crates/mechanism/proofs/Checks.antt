@@ -1,24 +1,25 @@
 -- Checks one after the other, and what a description that passes them is known to be. Worked is named so that the worked descriptions are computed before: a wrong definition then fails at a plain example. Assumes nothing.
 use mathlib.Core.Path.{_≡_, refl, sym, ap, _∙_}
-use mathlib.Core.Bool.{Bool, true, false, false≢true, not, _||_}
+use mathlib.Core.Bool.{Bool, true, false, false≢true, not, _&&_, _||_}
 use Prim.Native.Nat.{ℕ, _+_, _<_, _≤_}
 use native.Mathlib.Omega.{arith}
 use lib.Dec.{leb, ltb}
 use borrow.Author.Tests.{leb-true, ltb-false, lt-ltb, le-ltb}
-use Rattle.laws.proofs.Choice.{and-yes, and-no, neither, both, not-yes, not-no}
-use Rattle.laws.proofs.Finite.{any-none, first-none}
+use Rattle.laws.proofs.Choice.{and-yes, and-no, or-no, neither, both, not-yes, not-no}
+use Rattle.laws.proofs.Finite.{any-none, any-all, first-none}
 use Rattle.laws.proofs.Sums.{sum-more, sum-mono}
 use Rattle.mechanism.proofs.Worked as worked
 use Rattle.mechanism.specs.Description.{bodyAt, partAt, pairAt, segsOf, startOfPart, sideLength}
-use Rattle.mechanism.specs.Check.{isAccepted, andThen, refusedIf, sideOver, pairOver, partsOver, pairsOver, limitPassed, coordBelow, misplaced, bodiesChecked, directionMissing, partsChecked, partDraws, withDrawn, withRange, pairsChecked, checkOf, FewParts, FewPairs, Few}
+use Rattle.mechanism.specs.Check.{isAccepted, andThen, refusedIf, sideOver, pairOver, partsOver, pairsOver, limitPassed, coordBelow, misplaced, bodiesChecked, directionMissing, partsChecked, partDraws, withDrawn, withRange, sideBody, sidesChecked, pairsChecked, checkOf, callChecked, FewParts, FewPairs, Few}
 use Rattle.mechanism.specs.Pose.{Rooted}
 use Rattle.mechanism.specs.declared.Parts.{Parts}
 use Rattle.mechanism.specs.declared.Pairs.{Pairs}
 use Rattle.mechanism.specs.declared.Mechanism.{Mechanism}
+use Rattle.mechanism.specs.declared.pair.Surface.{Surface}
 use Rattle.mechanism.specs.declared.part.SurfaceRef.{SurfaceRef}
 use Rattle.mechanism.specs.declared.check.Side.{Side}
 use Rattle.mechanism.specs.declared.Problem.{Problem}
-use Rattle.mechanism.specs.declared.Problem.the-variants.{LimitPassed, BodyNotPlaced, NoDirection}
+use Rattle.mechanism.specs.declared.Problem.the-variants.{LimitPassed, BodyNotPlaced, NoDirection, PoseNotMatching, NoSuchThing, TooFewRows}
 use Rattle.mechanism.specs.declared.Checked.{Checked}
 use Rattle.mechanism.specs.declared.Checked.the-variants.{Accepted, Refused}
 
@@ -38,7 +39,7 @@ pub goes-on-if : {b : Bool} (p : Problem) (next : Checked) → b ≡ false → a
 goes-on-if p next e = ap (λ (b : Bool). andThen (refusedIf b p) next) e
 
 -- ---- no limit is passed
-few-parts : (p : Parts) → partsOver p ≡ false → FewParts p
+pub few-parts : (p : Parts) → partsOver p ≡ false → FewParts p
 unfolding partsOver
 few-parts p e =
     let a = neither (ltb 32 (p .count)) _ e in
@@ -54,6 +55,14 @@ few-parts p e =
     within : (i : ℕ) → i < p .count → startOfPart p (p .count) ≤ 384 → startOfPart p i + segsOf p i ≤ 384
     within i h t = let m = sum-more (segsOf p) i in let l = sum-mono (segsOf p) (i + 1) (p .count) (omega arith) in omega arith
 
+-- and back
+pub parts-few : (p : Parts) → FewParts p → partsOver p ≡ false
+unfolding partsOver
+parts-few p f =
+    or-no _ (le-ltb 32 (p .count) (f .count))
+    ∙ or-no _ (any-all (λ k. ltb 48 (segsOf p k)) (p .count) 0 (λ i h l. le-ltb 48 (segsOf p i) (f .each i (omega arith))))
+    ∙ le-ltb 384 (startOfPart p (p .count)) (f .total)
+
 few-pairs : (p : Pairs) → pairsOver p ≡ false → FewPairs p
 unfolding pairsOver
 few-pairs p e =
@@ -67,6 +76,10 @@ few-pairs p e =
     each : Rattle.laws.specs.Loops.anyIn (λ k. pairOver (pairAt p k)) (p .count) 0 ≡ false → (i : ℕ) → i < p .count → pairOver (pairAt p i) ≡ false
     each g i h = any-none (λ k. pairOver (pairAt p k)) (p .count) 0 i g (omega arith) (omega arith)
 
+sides-few : (p : Pairs) → pairsOver p ≡ false → (i : ℕ) → i < p .count → (sideOver (pairAt p i .a) ≡ false) × (sideOver (pairAt p i .b) ≡ false)
+unfolding pairsOver
+sides-few p e i h = neither _ _ (any-none (λ k. pairOver (pairAt p k)) (p .count) 0 i (neither (ltb 16 (p .count)) _ e .1) (omega arith) (omega arith))
+
 pub few : (m : Mechanism) → limitPassed m ≡ false → Few m
 unfolding limitPassed
 few m e =
@@ -79,6 +92,12 @@ few m e =
       parts = few-parts (m .parts) (c .0);
       pairs = few-pairs (m .pairs) (c .1);
     }
+
+-- the parts and a side that pass no limit
+pub within-limits : (ps : Parts) (u : Surface) → (not (partsOver ps) && not (sideOver u)) ≡ true → FewParts ps × (u .count ≤ 4)
+within-limits ps u e =
+    let b = both (not (partsOver ps)) (not (sideOver u)) e in
+    (few-parts ps (not-yes (partsOver ps) (b .0)), ltb-false 4 (u .count) (neither _ (ltb 12 (sideLength u)) (not-yes (sideOver u) (b .1)) .0))
 
 -- ---- one range more of a side: of a part that there is, or of none
 module _ (ps : Parts) (pair : ℕ) (s : Side) (r : SurfaceRef) where
@@ -134,9 +153,55 @@ is-no {r} e f t = ap isAccepted (sym e) ∙ not-yes (isAccepted r) (sym f ∙ t)
 pub is-yes : {r c : Checked} {b : Bool} → r ≡ c → b ≡ not (isAccepted r) → b ≡ false → isAccepted c ≡ true
 is-yes {r} e f t = ap isAccepted (sym e) ∙ not-no (isAccepted r) (sym f ∙ t)
 
+-- ---- where the list of a call ends
+module _ (m : Mechanism) (fits known room : Bool) where
+  abbrev fromRoom : Checked
+  fromRoom = refusedIf (not room) TooFewRows
+
+  abbrev fromNames : Checked
+  fromNames = andThen (refusedIf (not known) NoSuchThing) fromRoom
+
+  abbrev fromPose : Checked
+  fromPose = andThen (refusedIf (not fits) PoseNotMatching) fromNames
+
+  pub at-description : isAccepted (checkOf m) ≡ false → callChecked m fits known room ≡ checkOf m
+  at-description e = stops (checkOf m) fromPose e
+
+  past-description : isAccepted (checkOf m) ≡ true → callChecked m fits known room ≡ fromPose
+  past-description e = goes-on (checkOf m) fromPose e
+
+  pub at-pose : isAccepted (checkOf m) ≡ true → not fits ≡ true → callChecked m fits known room ≡ Refused PoseNotMatching
+  at-pose e f = past-description e ∙ stops-if PoseNotMatching fromNames f
+
+  pub past-pose : isAccepted (checkOf m) ≡ true → not fits ≡ false → callChecked m fits known room ≡ fromNames
+  past-pose e f = past-description e ∙ goes-on-if PoseNotMatching fromNames f
+
+  pub at-names : isAccepted (checkOf m) ≡ true → not fits ≡ false → not known ≡ true → callChecked m fits known room ≡ Refused NoSuchThing
+  at-names e f g = past-pose e f ∙ stops-if NoSuchThing fromRoom g
+
+  pub past-names : isAccepted (checkOf m) ≡ true → not fits ≡ false → not known ≡ false → callChecked m fits known room ≡ fromRoom
+  past-names e f g = past-pose e f ∙ goes-on-if NoSuchThing fromRoom g
+
 -- ---- what an accepted description is known to be
 refused-not : (p : Problem) → Refused p ≡ Accepted → ⊥
 refused-not p e = false≢true (ap isAccepted e)
+
+-- two checks that accept together accept each, and a test that does not refuse holds
+passed : (c next : Checked) → andThen c next ≡ Accepted → (c ≡ Accepted) × (next ≡ Accepted)
+passed Accepted next e = (refl, e)
+passed (Refused p) next e = absurd (refused-not p e)
+
+passed-if : (b : Bool) (p : Problem) → refusedIf (not b) p ≡ Accepted → b ≡ true
+passed-if true p e = refl
+passed-if false p e = absurd (refused-not p e)
+
+-- a call that is not refused: its description is accepted, and all that it asks for is there
+pub call-accepted : (m : Mechanism) (fits known room : Bool) → callChecked m fits known room ≡ Accepted → (checkOf m ≡ Accepted) × (fits ≡ true) × (known ≡ true) × (room ≡ true)
+call-accepted m fits known room e =
+    let a = passed (checkOf m) (fromPose m fits known room) e in
+    let b = passed (refusedIf (not fits) PoseNotMatching) (fromNames m fits known room) (a .1) in
+    let c = passed (refusedIf (not known) NoSuchThing) (fromRoom m fits known room) (b .1) in
+    (a .0, passed-if fits PoseNotMatching (b .0), passed-if known NoSuchThing (c .0), passed-if room TooFewRows (c .1))
 
 module _ (m : Mechanism) (e : checkOf m ≡ Accepted) where
   no-limit : limitPassed m ≡ false
@@ -173,3 +238,30 @@ module _ (m : Mechanism) (e : checkOf m ≡ Accepted) where
     where
       pass : (i : ℕ) → i < m .bodies .count → (leb (bodyAt (m .bodies) i .parent) i ≡ true) × (coordBelow (m .bodies .coords) (bodyAt (m .bodies) i .joint) ≡ true)
       pass i h = both _ _ (not-no _ (body-pass i h))
+
+  -- no side passes a limit
+  pub accepted-sides : (i : ℕ) → i < m .pairs .count → (sideOver (pairAt (m .pairs) i .a) ≡ false) × (sideOver (pairAt (m .pairs) i .b) ≡ false)
+  unfolding limitPassed
+  accepted-sides i h = sides-few (m .pairs) (neither (partsOver (m .parts)) _ (neither (ltb 15 (m .bodies .count) || ltb 16 (m .bodies .coords)) _ no-limit .1) .1) i h
+
+  directions-pass : directionMissing m ≡ false
+  directions-pass = go (directionMissing m) refl
+    where
+      go : (b : Bool) → directionMissing m ≡ b → b ≡ false
+      go true h = absurd (refused-not NoDirection (sym (at-directions m no-limit bodies-pass h) ∙ e))
+      go false h = refl
+
+  parts-pass : isAccepted (partsChecked (m .bodies .count) (m .parts) (m .outlines)) ≡ true
+  parts-pass = go (isAccepted (partsChecked (m .bodies .count) (m .parts) (m .outlines))) refl
+    where
+      go : (b : Bool) → isAccepted (partsChecked (m .bodies .count) (m .parts) (m .outlines)) ≡ b → b ≡ true
+      go true h = refl
+      go false h = absurd (false≢true (sym h ∙ ap isAccepted (sym (at-parts m no-limit bodies-pass directions-pass h) ∙ e)))
+
+  pairs-pass : isAccepted (pairsChecked (m .parts) (m .pairs)) ≡ true
+  pairs-pass = ap isAccepted (sym (at-pairs m no-limit bodies-pass directions-pass parts-pass) ∙ e)
+
+  -- the two sides of each pair pass
+  pub accepted-pair : (i : ℕ) → i < m .pairs .count → isAccepted (sidesChecked i (sideBody (m .parts) i (pairAt (m .pairs) i .a)) (sideBody (m .parts) i (pairAt (m .pairs) i .b))) ≡ true
+  unfolding pairsChecked
+  accepted-pair i h = first-none isAccepted Accepted _ (m .pairs .count) 0 pairs-pass i (omega arith) (omega arith)

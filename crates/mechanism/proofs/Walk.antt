@@ -9,7 +9,7 @@ use lib.Ieee.{Float}
 use native.Mathlib.Numerals.{add-one}
 use lib.ListN.{length, getD, take, drop, replicate, length-append, drop-of-length-le}
 use lib.Seq.{length-sets, sets-eq, take-append-seam, drop-cons, length-take-le, getD-take}
-use borrow.Author.Tests.{lt-ltb, le-ltb, ltb-true, ltb-false, ne-eqb}
+use borrow.Author.Tests.{lt-ltb, le-ltb, ltb-true, ltb-false, eq-eqb, ne-eqb, eqb-true, eqb-false}
 use Rattle.laws.specs.Loops.{Writing}
 use Rattle.laws.proofs.Choice.{neither, cond-yes, cond-no}
 use Rattle.laws.proofs.Writing.{ends, ends-count}
@@ -27,6 +27,17 @@ use Rattle.mechanism.specs.declared.pose.Columns.{Columns}
 use Rattle.mechanism.specs.declared.pose.MaybeColumn.{MaybeColumn}
 use Rattle.mechanism.specs.declared.pose.MaybeColumn.the-variants.{SomeColumn, NoColumn}
 use Rattle.geometry.specs.declared.Point.{Point}
+
+-- ---- one placement a body
+pub none-fits : (n k : ℕ) → n ≡ 0 → eqb n (k + 1) ≡ false
+none-fits n k e = ne-eqb n (k + 1) (λ h. omega arith)
+
+pub one-less : (n k : ℕ) → 0 < n → eqb (n - 1) k ≡ eqb n (k + 1)
+one-less n k h = go (eqb n (k + 1)) refl
+  where
+    go : (b : Bool) → eqb n (k + 1) ≡ b → eqb (n - 1) k ≡ b
+    go true e = let f = eqb-true n (k + 1) e in eq-eqb (n - 1) k (omega arith)
+    go false e = ne-eqb (n - 1) k (λ f. eqb-false n (k + 1) e (omega arith))
 
 -- a number that names a body above the ground
 pub in-range : (at : ℕ) → (eqb at 0 || ltb 15 at) ≡ false → (0 < at) × (at ≤ 15)

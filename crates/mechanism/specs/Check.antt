@@ -2,7 +2,7 @@
 use Prim.Native.Nat.{ℕ, _+_, _%_, _<_, _≤_}
 use mathlib.Core.Bool.{Bool, true, false, not, cond, _&&_, _||_}
 use lib.Dec.{ltb, leb, eqb}
-use lib.Ieee.{isNan}
+use lib.Ieee.{Float, isNan}
 use Rattle.laws.specs.Loops.{anyIn, foldIn, firstIn}
 use Rattle.ieee.specs.Num.{finite, sameOf}
 use Rattle.geometry.specs.Geometry.{dirOf, startOf, endOf}
@@ -31,6 +31,8 @@ use Rattle.mechanism.specs.declared.Problem.{Problem}
 use Rattle.mechanism.specs.declared.Problem.the-variants.{TextTooLong, LineNotRead, LimitPassed, BodyNotPlaced, NoDirection, PartOnNoSuchBody, OutlineNotClosed, RangeNotDrawn, SideOnTwoBodies, PairOnOneBody, PoseNotMatching, NoSuchThing, TooFewRows}
 use Rattle.mechanism.specs.declared.Checked.{Checked}
 use Rattle.mechanism.specs.declared.Checked.the-variants.{Accepted, Refused}
+use Rattle.mechanism.specs.declared.FloatAnswer.{FloatAnswer}
+use Rattle.mechanism.specs.declared.FloatAnswer.the-variants.{IsFloat, NoFloat}
 use Rattle.mechanism.specs.declared.check.Side.{Side}
 use Rattle.mechanism.specs.declared.check.Side.the-variants.{Unknown, On, Wrong}
 
@@ -234,6 +236,23 @@ callChecked m fits known room =
     (andThen (refusedIf (not fits) PoseNotMatching)
     (andThen (refusedIf (not known) NoSuchThing)
     (refusedIf (not room) TooFewRows)))
+
+-- the answer of a call: a number, or the first refusal that applies
+abbrev pub answerOf : Checked → Float → FloatAnswer
+answerOf Accepted x = IsFloat x
+answerOf (Refused p) x = NoFloat p
+
+-- ---- a side that 3, 8 and 9 let pass, and a pair of two such sides
+abbrev pub isOn : Side → Bool
+isOn Unknown = false
+isOn (On b) = true
+isOn (Wrong p) = false
+
+unfoldable pub sideDrawn : Parts → Surface → Bool
+sideDrawn ps u = (not (partsOver ps) && not (sideOver u)) && isOn (sideBody ps 0 u)
+
+abbrev pub pairDrawn : Parts → ContactPair → Bool
+pairDrawn ps p = sideDrawn ps (p .a) && sideDrawn ps (p .b)
 
 -- ---- what is left where no limit is passed
 pub record FewParts (p : Parts) : Type 0 where

@@ -161,9 +161,13 @@ placementOf q body = cond (noSuchBody q body) (NoPlacement NoSuchThing) (IsPlace
 unfoldable pub pointOf : Pose → MaterialPoint → PointAnswer
 pointOf q p = cond (noSuchBody q (p .body)) (NoPoint NoSuchThing) (IsPoint (worldOf (placementAt q (p .body)) (p .at)))
 
+-- one placement a body, the ground's among them
+abbrev pub poseFits : Bodies → Pose → Bool
+poseFits b q = eqb (q .count) (b .count + 1)
+
 -- jacobian_column, 3 to 12: one placement a body; the body and the coordinate are there
 abbrev pub jacobianChecked : Mechanism → Pose → MaterialPoint → ℕ → Checked
-jacobianChecked m q p c = callChecked m (eqb (q .count) (m .bodies .count + 1)) (leb (p .body) (m .bodies .count) && ltb c (m .bodies .coords)) true
+jacobianChecked m q p c = callChecked m (poseFits (m .bodies) q) (leb (p .body) (m .bodies .count) && ltb c (m .bodies .coords)) true
 
 -- how fast a material point moves in the world with a coordinate
 abbrev pub columnFor : Bodies → Pose → MaterialPoint → ℕ → Point

@@ -3,7 +3,7 @@ ghost use mathlib.Core.Path.{_≡_};
 ghost use mathlib.Core.Bool.{not};
 ghost use Prim.Native.Nat.{_+_, _≤_, _<_};
 ghost use Rattle.mechanism.specs.Description.{startOfPart, silhouetteLength, rangeLength, turnedLength};
-ghost use Rattle.mechanism.specs.Check.{numberOf, placeOf, isAccepted, sideOver, pairOver, partsOver, pairsOver, limitPassed, coordBelow, misplaced, bodiesChecked, noDir, jointLacks, sweepLacks, segLacks, bodiesLack, partsLack, outlinesLack, directionMissing, pointFinite, samePoint, segOpen, outlineOpen, partChecked, partsChecked, partDraws, isWrong, withBody, withDrawn, sideEnd, sideBody, sidesChecked, pairsChecked, checkOf, FewParts, FewPairs, Few};
+ghost use Rattle.mechanism.specs.Check.{numberOf, placeOf, isAccepted, sideOver, pairOver, partsOver, pairsOver, limitPassed, coordBelow, misplaced, bodiesChecked, noDir, jointLacks, sweepLacks, segLacks, bodiesLack, partsLack, outlinesLack, directionMissing, pointFinite, samePoint, segOpen, outlineOpen, partChecked, partsChecked, partDraws, isWrong, withBody, withDrawn, sideEnd, sideBody, sidesChecked, pairsChecked, checkOf, callChecked, isOn, sideDrawn, pairDrawn, FewParts, FewPairs, Few};
 use super::Bodies;
 use super::Body;
 use super::Checked;
@@ -107,7 +107,8 @@ fn pair_over(p: ContactPair) -> bool
     side_over(a) | side_over(b)
 }
 
-fn parts_over(p: Parts) -> bool
+// Whether there are too many parts, or too many segments in one of them or in all.
+pub fn parts_over(p: Parts) -> bool
     ensures { λ r. ⌜ r ≡ partsOver p ⌝ }
 {
     let n = p.count;
@@ -607,4 +608,54 @@ pub fn check(m: Mechanism) -> Checked
     }
     let q = m.pairs;
     pairs_checked(p, q)
+}
+
+// Document 01's list for a call on a description: 3 to 10, then 11 where the pose does not fit, 12 where something named is not there, 13 where the lent rows have
+// no room.
+pub fn call_checked(m: Mechanism, fits: bool, known: bool, room: bool) -> Checked
+    ensures { λ r. ⌜ r ≡ callChecked m fits known room ⌝ }
+{
+    let c = check(m);
+    if is_refused(c) {
+        return c;
+    }
+    if !fits {
+        return Checked::Refused(Problem::PoseNotMatching);
+    }
+    if !known {
+        return Checked::Refused(Problem::NoSuchThing);
+    }
+    if !room {
+        return Checked::Refused(Problem::TooFewRows);
+    }
+    Checked::Accepted
+}
+
+fn is_on(s: Side) -> bool
+    ensures { λ r. ⌜ r ≡ isOn s ⌝ }
+{
+    match s {
+        Side::Unknown => false,
+        Side::On(_) => true,
+        Side::Wrong(_) => false,
+    }
+}
+
+// Whether a side passes no limit, and its ranges are drawn and lie on one body.
+pub fn side_drawn(ps: Parts, u: Surface) -> bool
+    ensures { λ r. ⌜ r ≡ sideDrawn ps u ⌝ }
+{
+    if !parts_over(ps) & !side_over(u) {
+        return is_on(side_body(ps, 0, u));
+    }
+    false
+}
+
+// The same of both sides of a pair.
+pub fn pair_drawn(ps: Parts, p: ContactPair) -> bool
+    ensures { λ r. ⌜ r ≡ pairDrawn ps p ⌝ }
+{
+    let a = p.a;
+    let b = p.b;
+    side_drawn(ps, a) & side_drawn(ps, b)
 }

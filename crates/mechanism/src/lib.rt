@@ -87,3 +87,9 @@ pub enum Checked {
     Accepted,
     Refused(Problem),
 }
+
+// A number, or the first refusal that applies.
+pub enum FloatAnswer {
+    IsFloat(f64),
+    NoFloat(Problem),
+}

@@ -4,7 +4,7 @@ ghost use mathlib.Core.Bool.{true};
 ghost use Prim.Native.Nat.{_+_, _≤_, _<_};
 ghost use lib.ListN.{length, take};
 ghost use Rattle.mechanism.specs.Check.{coordBelow};
-ghost use Rattle.mechanism.specs.Pose.{rotateOf, worldOf, isWorld, hinged, slid, placedOf, placementsOf, poseChecked, posedOf, noPose, columnOf, columnIn, columnsOf, columnsIn, noMove, lastColumn, placementAt, placementOf, pointOf, columnFor, jacobianChecked, jacobianOf, bodyNumbered, bodyAnswer, bodyCheckedAt, Rooted};
+ghost use Rattle.mechanism.specs.Pose.{rotateOf, worldOf, isWorld, hinged, slid, placedOf, placementsOf, poseChecked, posedOf, noPose, columnOf, columnIn, columnsOf, columnsIn, noMove, lastColumn, placementAt, placementOf, poseFits, pointOf, columnFor, jacobianChecked, jacobianOf, bodyNumbered, bodyAnswer, bodyCheckedAt, Rooted};
 use super::Bodies;
 use super::Body;
 use super::Checked;
@@ -286,17 +286,23 @@ fn last_column(k: Columns, coord: usize) -> Point
     found
 }
 
-// Where a body of the pose stands; `body` is below sixteen.
-fn placement_at(q: Pose, body: usize) -> Placement
-    requires { ⌜ body < 16 ⌝ }
+// Where a body of the pose stands; a place of NaNs past the sixteenth.
+pub fn placement_at(q: Pose, body: usize) -> Placement
     ensures { λ r. ⌜ r ≡ placementAt q body ⌝ }
 {
-    q.placement[body]
+    if body < 16 {
+        return q.placement[body];
+    }
+    let nan = 0.0 / 0.0;
+    Placement {
+        origin: Point { x: nan, y: nan },
+        cos: nan,
+        sin: nan,
+    }
 }
 
-// How fast a material point of a body that is there moves with a coordinate.
+// How fast a material point moves with a coordinate.
 fn column_for(b: Bodies, q: Pose, p: MaterialPoint, coord: usize) -> Point
-    requires { ⌜ p .body < 16 ⌝ }
     ensures { λ r. ⌜ r ≡ columnFor b q p coord ⌝ }
 {
     let at = placement_at(q, p.body).world(p.at);
@@ -304,6 +310,16 @@ fn column_for(b: Bodies, q: Pose, p: MaterialPoint, coord: usize) -> Point
 }
 
 impl Pose {
+    // Whether there is one placement a body, the ground's among them.
+    pub fn fits(self, b: Bodies) -> bool
+        ensures { λ r. ⌜ r ≡ poseFits b self ⌝ }
+    {
+        if self.count == 0 {
+            return false;
+        }
+        self.count - 1 == b.count
+    }
+
     // Where a body's frame stands.
     pub fn placement(self, body: usize) -> PlacementAnswer
         ensures { λ r. ⌜ r ≡ placementOf self body ⌝ }

@@ -1,8 +1,5 @@
-use native.Mathlib.Omega.{arith}
-use lib.Dec.{ltb, leb}
 use mathlib.Core.Path.{sym}
-use borrow.Author.Tests.{ltb-false, leb-false}
-use Rattle.laws.proofs.Choice.{neither, cond-yes, cond-no}
+use Rattle.laws.proofs.Choice.{cond-yes, cond-no}
 use Rattle.mechanism.specs.Pose.{pointOf}
 use borrow.Author.Needs.{needs}
 use Rattle.mechanism.proofs.pose.Pose.world.Statement.{statement}
@@ -13,11 +10,7 @@ unfolding pointOf
 returns c = sym (cond-yes _ _ (c .if1 .taken))
 
 placement-at-requires : tie.Need-placement-at-requires
-placement-at-requires c κs =
-    let h = neither (ltb 16 (c .before .before .before .before .args .self .count)) (leb (c .before .before .before .before .args .self .count) (c .before .before .before .before .args .p .body)) (c .if1 .left) in
-    let a = ltb-false 16 (c .before .before .before .before .args .self .count) (h .0) in
-    let b = leb-false (c .before .before .before .before .args .self .count) (c .before .before .before .before .args .p .body) (h .1) in
-    omega arith
+placement-at-requires c κs = search needs
 
 world-requires : tie.Need-world-requires
 world-requires c κs = search needs

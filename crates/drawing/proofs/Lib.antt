@@ -1,0 +1,6 @@
+pub mod Known
+pub mod Segments
+pub mod Draws
+pub mod Mouths
+pub mod Sides
+pub mod Laid

@@ -1,0 +1,4 @@
+pub mod Worked
+pub mod Held
+pub mod Steps
+pub mod Answered

@@ -1,0 +1,4 @@
+pub mod Parts
+pub mod Outside
+pub mod Sets
+pub mod Worked

@@ -1,0 +1,127 @@
+-- A point whose ordinate lies outside the range of all points is inside no polygon, so its depth is zero: no edge's two ends lie on different sides of its ray. No rounding is met.
+-- Assumes nothing.
+use mathlib.Core.Path.{_≡_, refl, ap, _∙_, subst}
+use mathlib.Core.Bool.{Bool, true, false, cond, _||_}
+use mathlib.Core.Logic.{inl, inr}
+use mathlib.Core.List.{List, []}
+use Prim.Native.Nat.{ℕ, zero, suc, _+_, _-_, _%_, _≤_, _<_}
+use native.Mathlib.Nat.{mod-lt}
+use native.Mathlib.Omega.{arith}
+use borrow.Author.Count.{below-more}
+use lib.Dec.{T}
+use lib.ListN.{length, getD, drop, length-map, length-take, length-drop, List·getD-map}
+use lib.Seq.{getD-take, getD-drop}
+use lib.Ieee.{Float, binary64, div, ofBits, nan, inf, fin, lt, le}
+use Rattle.laws.specs.Lists.{listIn, foldl, any}
+use Rattle.laws.proofs.Choice.{holds, is-true, is-false, cond-no, and-no, or-cases}
+use Rattle.laws.proofs.Order.{lt-trans, lt-eq, eq-lt}
+use Rattle.ieee.specs.Consts.{zeroF}
+use Rattle.ieee.proofs.MinRoot.{lt-le, le-cases, le-not-lt}
+use Rattle.geometry.specs.declared.Point.{Point}
+use Rattle.material.specs.Material.{Edge, nowhere, edgeAt, crossOf, turnedBy, insideOf, polyAt, pointOf, pointsOf, between, materialOf, depthOf}
+use Rattle.material.specs.Range.{Covers, lowOf, highOf, ordinate, outsideOf}
+
+-- ---- the order, with `le` on one side
+lt-of-le : (x y z : Float) → T (lt x y) → T (le y z) → T (lt x z)
+lt-of-le x y z h k = elim (le-cases y z k) [ inl l ↦ lt-trans x y z h l | inr e ↦ lt-eq x y z h e ]
+
+le-of-lt : (x y z : Float) → T (le x y) → T (lt y z) → T (lt x z)
+le-of-lt x y z h k = elim (le-cases x y h) [ inl l ↦ lt-trans x y z l k | inr e ↦ eq-lt x y z e k ]
+
+no-nan : (y : Float) → T (lt y nan) → ⊥
+unfolding lt
+no-nan nan h = h
+no-nan (inf s) h = h
+no-nan (fin s m e) h = h
+
+-- 0.0 / 0.0
+pub nothing : div binary64 (ofBits binary64 0) (ofBits binary64 0) ≡ nan
+unfolding div ofBits
+nothing = refl
+
+-- ---- one more point
+module _ (y lo v : Float) where
+  low-old : (a b : Bool) → lt v lo ≡ b → T (lt y (cond a lo (cond b v nan))) → T (lt y lo)
+  low-old true b e h = h
+  low-old false true e h = lt-trans y v lo h (holds e)
+  low-old false false e h = absurd (no-nan y h)
+
+  low-new : (a b : Bool) → le lo v ≡ a → T (lt y (cond a lo (cond b v nan))) → T (lt y v)
+  low-new true b e h = lt-of-le y lo v h (holds e)
+  low-new false true e h = h
+  low-new false false e h = absurd (no-nan y h)
+
+module _ (hi y v : Float) where
+  high-old : (a : Bool) → lt hi v ≡ a → T (le (cond a v hi) y) → T (le hi y)
+  high-old true e h = elim (le-cases v y h) [ inl l ↦ lt-le hi y (lt-trans hi v y (holds e) l) | inr k ↦ lt-le hi y (lt-eq hi v y (holds e) k) ]
+  high-old false e h = h
+
+  high-new : (a : Bool) → lt hi v ≡ a → T (le (cond a v hi) y) → T (lt y v) → ⊥
+  high-new true e h k = le-not-lt v y h k
+  high-new false e h k = subst T e (le-of-lt hi y v h k)
+
+pub covers-none : (l : List (List Float)) (lo hi : Float) → Covers l 0 lo hi
+covers-none l lo hi = record { under = λ y t i h. absurd (native.Mathlib.Nat.not-suc-le-zero h); over = λ y t i h. absurd (native.Mathlib.Nat.not-suc-le-zero h) }
+
+pub covers-more : (l : List (List Float)) (n : ℕ) (lo hi : Float) → Covers l n lo hi → Covers l (n + 1) (lowOf lo (ordinate l n)) (highOf hi (ordinate l n))
+covers-more l n lo hi c = record {
+  under = λ y t. below-more (λ (i : ℕ). lt y (ordinate l i) ≡ true) n (c .under y (low-old y lo (ordinate l n) (le lo (ordinate l n)) (lt (ordinate l n) lo) refl t))
+      (is-true (lt y (ordinate l n)) (low-new y lo (ordinate l n) (le lo (ordinate l n)) (lt (ordinate l n) lo) refl t));
+  over = λ y t. below-more (λ (i : ℕ). lt y (ordinate l i) ≡ false) n (c .over y (high-old hi y (ordinate l n) (lt hi (ordinate l n)) refl t))
+      (is-false (lt y (ordinate l n)) (high-new hi y (ordinate l n) (lt hi (ordinate l n)) refl t));
+}
+
+-- ---- no crossing where both ends lie on one side
+no-cross : (p : Point) (e : Edge) (b : Bool) → lt (p .y) (e .a .y) ≡ b → lt (p .y) (e .b .y) ≡ b → crossOf p e ≡ false
+unfolding crossOf
+no-cross p e true h k = rw (h, k)
+no-cross p e false h k = rw (h, k)
+
+module _ (p : Point) (q : ℕ → Point) (n : ℕ) (b : Bool) (side : (i : ℕ) → i < n → lt (p .y) (q i .y) ≡ b) where
+  at-edge : (j : ℕ) → j < n → crossOf p (edgeAt q n j) ≡ false
+  at-edge j h = no-cross p (edgeAt q n j) b (side j h) (side ((j + 1) % n) (mod-lt (j + 1) (native.Mathlib.Nat.lt-of-le-of-lt Prim.Native.Nat.zero-le h)))
+
+  quiet : (k j : ℕ) → j + k ≤ n → foldl (turnedBy p) false (listIn (edgeAt q n) k j) ≡ false
+  unfolding foldl listIn
+  quiet zero j h = refl
+  quiet (suc k) j h =
+      ap (λ (t : Bool). foldl (turnedBy p) (cond t true false) (listIn (edgeAt q n) k (suc j))) (at-edge j (omega arith))
+      ∙ quiet k (suc j) (omega arith)
+
+-- ---- a polygon of points of l
+module _ (p : Point) (l : List (List Float)) (b : Bool) (side : (i : ℕ) → i < length l → lt (p .y) (ordinate l i) ≡ b) where
+  module _ (a e : ℕ) where
+    vertex : (i : ℕ) → i < length (between l a e) → lt (p .y) (getD (pointsOf (between l a e)) i nowhere .y) ≡ b
+    vertex i h =
+        let k : length (between l a e) ≡ Prim.Native.Nat.min (e - a) (length l - a) = length-take (e - a) (drop a l) ∙ ap (Prim.Native.Nat.min (e - a)) (length-drop a l) in
+        let x : i < e - a = omega (arith, k) in
+        let y : a + i < length l = omega (arith, k) in
+        ap (λ (v : Point). lt (p .y) (v .y)) (List·getD-map pointOf (between l a e) i [])
+        ∙ ap (λ (v : List Float). lt (p .y) (getD v 1 nan)) (getD-take (e - a) (drop a l) i [] x ∙ getD-drop a l i [])
+        ∙ side (a + i) y
+
+    not-inside : insideOf p (pointsOf (between l a e)) ≡ false
+    unfolding insideOf
+    not-inside =
+        quiet p (λ i. getD (pointsOf (between l a e)) i nowhere) (length (pointsOf (between l a e))) b
+        (λ i h. vertex i (subst (λ (n : ℕ). i < n) (length-map (between l a e) pointOf) h))
+        (length (pointsOf (between l a e))) 0 (omega arith)
+
+  none-inside : (starts : List ℕ) (k j : ℕ) → any (insideOf p) (listIn (polyAt l starts) k j) ≡ false
+  unfolding any listIn
+  none-inside starts zero j = refl
+  none-inside starts (suc k) j =
+      ap (λ (t : Bool). t || any (insideOf p) (listIn (polyAt l starts) k (suc j))) (not-inside (getD starts j 0) (getD starts (j + 1) 0))
+      ∙ none-inside starts k (suc j)
+
+  zero-depth : (starts : List ℕ) (solids all : ℕ) → depthOf (materialOf l starts solids all) p ≡ zeroF
+  unfolding depthOf
+  zero-depth starts solids all = cond-no _ _ (and-no _ (none-inside starts solids 0))
+
+-- THE LAW: outside the range of all points the depth is zero
+pub outside-depth : (l : List (List Float)) (starts : List ℕ) (solids all : ℕ) (lo hi : Float) (p : Point) → Covers l (length l) lo hi
+    → outsideOf lo hi (p .y) ≡ true → depthOf (materialOf l starts solids all) p ≡ zeroF
+outside-depth l starts solids all lo hi p c h = elim (or-cases (lt (p .y) lo) (le hi (p .y)) (holds h)) [
+  | inl t ↦ zero-depth p l true (c .under (p .y) t) starts solids all
+  | inr t ↦ zero-depth p l false (c .over (p .y) t) starts solids all
+]

@@ -1,0 +1,9 @@
+pub mod Worked
+pub mod Known
+pub mod Growth
+pub mod Walked
+pub mod Sizes
+pub mod Silhouettes
+pub mod Pairwise
+pub mod Accepted
+pub mod Few

@@ -1,0 +1,22 @@
+use borrow.Author.Needs.{needs}
+use Rattle.silhouette.proofs.start_in.Statement.{statement}
+use Rattle.silhouette.proofs.start_in.Tie as tie
+
+enum-known-seg : tie.Need-enum-known-seg
+enum-known-seg c = search needs
+
+enum-known-seg-2 : tie.Need-enum-known-seg-2
+enum-known-seg-2 c = search needs
+
+returns : tie.Need-returns
+returns c =
+    let t1 = c .before .seg .given .1 in
+    simp (t1)
+
+returns-2 : tie.Need-returns-2
+returns-2 c =
+    let t1 = c .before .seg2 .given .1 in
+    simp (t1)
+
+pub start-in-spec : {M : Type 1} → statement M
+start-in-spec = tie.close (tie.spec enum-known-seg enum-known-seg-2 returns returns-2)
