@@ -1,3 +1,4 @@
 pub mod Description
 pub mod Check
 pub mod Pose
+pub mod Piece

@@ -1,4 +1,6 @@
 // The pieces of a side that a reading takes (contact/features.rs).
+ghost use mathlib.Core.Path.{_≡_};
+ghost use Rattle.mechanism.specs.Piece.{isDisc};
 
 // A piece, by its part and by its segment in the part's silhouette.
 pub enum Piece {
@@ -10,6 +12,20 @@ pub enum Piece {
     Vertex { part: usize, seg: usize },
     // The centre of a side's faces.
     Center { part: usize },
+}
+
+impl Piece {
+    // Whether the piece is read as a disc: an arc or a vertex.
+    pub fn is_disc(self) -> bool
+        ensures { λ r. ⌜ r ≡ isDisc self ⌝ }
+    {
+        match self {
+            Piece::Segment { part: _, seg: _ } => false,
+            Piece::Arc { part: _, seg: _ } => true,
+            Piece::Vertex { part: _, seg: _ } => true,
+            Piece::Center { part: _ } => false,
+        }
+    }
 }
 
 // What a row pairs: a piece of side A and one of side B.

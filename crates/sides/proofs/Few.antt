@@ -2,7 +2,8 @@
 use Prim.Native.Nat.{ℕ, zero, suc, _+_, _*_, _<_, _≤_}
 use native.Mathlib.Nat.{add-mul, mul-add, mul-comm, mul-le-mul}
 use native.Mathlib.Omega.{arith}
-use mathlib.Core.Path.{_≡_, refl, ap, _∙_}
+use native.Mathlib.Numerals.{add-one}
+use mathlib.Core.Path.{_≡_, refl, sym, ap, _∙_}
 use mathlib.Core.Bool.{Bool, true, false, cond, _||_}
 use mathlib.Core.List.{List, []}
 use lib.ListN.{length, length-append}
@@ -34,7 +35,7 @@ use Rattle.sides.specs.declared.SideFeatures.{SideFeatures}
 use Rattle.sides.specs.declared.contacts.PairFeatures.{PairFeatures}
 use Rattle.sides.specs.Features.{Run, placedFace, placedDisc, faceOf, arcOf, cornerOf, facesOfSeg, discsOfSeg, facesAt, stepAt, stepDiscs, endDiscs, rangeFaces, rangeDiscs, opening, previousAt, runAt, facesOfRange, discsOfRange, facesOf, discsOf, lastBefore, firstAfter, lastSeg, between, meets, traversalsOf, sideOf}
 use Rattle.sides.specs.Bounds.{total, Runs, DrawnSide, rowBound}
-use Rattle.sides.specs.Contacts.{centerOfB, pairFeatures}
+use Rattle.sides.specs.Contacts.{centerOfB, pairFeatures, pairBound, mechanismBound}
 use Rattle.sides.proofs.Sizes.{drawn-runs}
 use Rattle.sides.proofs.Accepted.{accepted-drawn}
 
@@ -204,3 +205,18 @@ pair-few ps o p d e =
 pub accepted-few-features : (m : Mechanism) → checkOf m ≡ Accepted → (i : ℕ) → i < m .pairs .count
     → FewFeatures (pairAt (m .pairs) i .geometry) (pairFeatures (m .parts) (m .outlines) (pairAt (m .pairs) i))
 accepted-few-features m e i h = pair-few (m .parts) (m .outlines) (pairAt (m .pairs) i) (accepted-drawn m e .a i h) (accepted-drawn m e .b i h)
+
+-- ---- the bound of a mechanism
+bounds-upto : (f : ℕ → ℕ) (k : ℕ) → ((j : ℕ) → j < k → f j ≤ 784) → sumIn f k 0 ≤ 784 * k
+unfolding foldIn
+bounds-upto f zero h = omega arith
+bounds-upto f (suc k) h =
+    let r = bounds-upto f k (λ j l. h j (omega arith)) in
+    let b = h k (omega arith) in
+    let e : sumIn f (suc k) 0 ≡ sumIn f k 0 + f k = ap (λ (n : ℕ). sumIn f n 0) (sym (add-one k)) ∙ sum-more f k in
+    omega (arith, r, b, e)
+
+-- at most 784 rows a pair
+pub accepted-bound : (m : Mechanism) → checkOf m ≡ Accepted → mechanismBound m ≤ 784 * m .pairs .count
+unfolding mechanismBound
+accepted-bound m e = bounds-upto (pairBound m) (m .pairs .count) (λ i h. accepted-few-features m e i h .rows)

@@ -5,7 +5,7 @@ use mathlib.Core.List.{[], map}
 use lib.ListN.{take}
 use Rattle.laws.specs.Fill.{filled}
 use Rattle.mechanism.specs.Check.{checkOf, pairDrawn}
-use Rattle.mechanism.specs.Description.{pairAt}
+use Rattle.mechanism.specs.Description.{sumIn, pairAt}
 use Rattle.mechanism.specs.declared.Checked.{Checked}
 use Rattle.mechanism.specs.declared.Checked.the-variants.{Accepted, Refused}
 use Rattle.mechanism.specs.declared.Mechanism.{Mechanism}
@@ -17,7 +17,7 @@ use Rattle.mechanism.specs.declared.pair.ContactPair.{ContactPair}
 use Rattle.mechanism.specs.declared.pair.PairGeometry.{PairGeometry}
 use Rattle.mechanism.specs.declared.pair.PairGeometry.the-variants.{Features, CenterBearing}
 use Rattle.sides.specs.Features.{sideFrom, sideOf, noPoint}
-use Rattle.sides.specs.Bounds.{DrawnSide}
+use Rattle.sides.specs.Bounds.{rowBound, DrawnSide}
 use Rattle.sides.specs.declared.contacts.PairFeatures.{PairFeatures}
 use Rattle.sides.specs.declared.contacts.Contacts.{Contacts}
 
@@ -43,6 +43,16 @@ contactsIf (Refused p) ps o pairs = record { checked = Refused p; count = 0; pai
 
 unfoldable pub contactsOf : Mechanism → Contacts
 contactsOf m = contactsIf (checkOf m) (m .parts) (m .outlines) (m .pairs)
+
+-- document 01's row bound of a pair of a mechanism, and of the mechanism: the sum of its pairs'
+abbrev pub pairBound : Mechanism → ℕ → ℕ
+pairBound m i =
+    let p = pairAt (m .pairs) i in
+    let f = pairFeatures (m .parts) (m .outlines) p in
+    rowBound (p .geometry) (f .a) (f .b)
+
+unfoldable pub mechanismBound : Mechanism → ℕ
+mechanismBound m = sumIn (pairBound m) (m .pairs .count) 0
 
 -- what an accepted description is known to be
 pub record DrawnPairs (ps : Parts) (pairs : Pairs) : Type 0 where

@@ -1,0 +1,4 @@
+pub mod Wrote
+pub mod Deep
+pub mod Sides
+pub mod Drawn

@@ -1,0 +1,82 @@
+use Rattle.candidates.proofs.Wrote.{put-one, put-none}
+use borrow.Author.Needs.{needs}
+use Rattle.candidates.proofs.put.Statement.{statement}
+use Rattle.candidates.proofs.put.Tie as tie
+
+enum-known-found : tie.Need-enum-known-found
+enum-known-found c = search needs
+
+mul-t13 : tie.Need-mul-t13
+mul-t13 c = search needs
+
+slice-set-from-near : tie.Need-slice-set-from-near
+slice-set-from-near c = search needs
+
+letter-requires : tie.Need-letter-requires
+letter-requires c κs = search needs
+
+part-requires : tie.Need-part-requires
+part-requires c κs = search needs
+
+seg-requires : tie.Need-seg-requires
+seg-requires c κs = search needs
+
+letter-requires-2 : tie.Need-letter-requires-2
+letter-requires-2 c κs = search needs
+
+part-requires-2 : tie.Need-part-requires-2
+part-requires-2 c κs = search needs
+
+seg-requires-2 : tie.Need-seg-requires-2
+seg-requires-2 c κs = search needs
+
+mul-t21 : tie.Need-mul-t21
+mul-t21 c = search needs
+
+slice-set-from-named : tie.Need-slice-set-from-named
+slice-set-from-named c = search needs
+
+add-result : tie.Need-add-result
+add-result c = search needs
+
+enum-told : tie.Need-enum-told
+enum-told c = search needs
+
+same-length : tie.Need-same-length
+same-length c = search needs
+
+same-length-2 : tie.Need-same-length-2
+same-length-2 c = search needs
+
+returns : tie.Need-returns
+returns c =
+    let s = c .before .before .before .before .before .before .before .before .before .before .before in
+    let found = c .before .before .before .before .before .before .before .before .before .found in
+    put-one (s .args .a) (s .args .b) (s .args .who) (found .given .0 .0) (s .args .at) (s .args .near .now) (s .args .named .now) (found .given .1) (c .before .before .before .before .before .letter .ensures) (c .before .before .before .before .part .ensures) (c .before .before .before .seg .ensures) (c .before .before .letter2 .ensures) (c .before .part2 .ensures) (c .seg2 .ensures)
+
+returns-2 : tie.Need-returns-2
+returns-2 c =
+    let s = c .before .before in
+    put-none (s .args .a) (s .args .b) (s .args .who) (s .args .at) (s .args .near .now) (s .args .named .now) (c .enum-told .given .1)
+
+pub put-spec : {M : Type 1} → statement M
+put-spec =
+    tie.close
+    (tie.spec
+    enum-known-found
+    mul-t13
+    slice-set-from-near
+    letter-requires
+    part-requires
+    seg-requires
+    letter-requires-2
+    part-requires-2
+    seg-requires-2
+    mul-t21
+    slice-set-from-named
+    add-result
+    enum-told
+    same-length
+    same-length-2
+    returns
+    returns-2)
