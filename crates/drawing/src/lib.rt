@@ -141,7 +141,7 @@ fn has_own(ps: Parts, u: Surface) -> bool
 }
 
 // The body of the side's first range.
-fn body_of_side(ps: Parts, u: Surface) -> usize
+pub fn body_of_side(ps: Parts, u: Surface) -> usize
     ensures { λ r. ⌜ r ≡ bodyOfSide ps u ⌝ }
 {
     let r = u.range[0];

@@ -1,0 +1,124 @@
+-- What `rows` answers and leaves in the lent arrays, refused and accepted. Assumes nothing.
+use Prim.Native.Nat.{ℕ, _*_, _≤_}
+use native.Mathlib.Omega.{arith}
+use native.Mathlib.Nat.{zero-add, zero-mul, mul-le-mul}
+use mathlib.Core.Path.{_≡_, sym, ap, ap₂, subst, _∙_}
+use mathlib.Core.Bool.{Bool, true, false, false≢true, not, _&&_}
+use mathlib.Core.List.{List, map}
+use lib.Dec.{leb}
+use lib.Ieee.{Float}
+use lib.ListN.{length, length-map}
+use lib.Seq.{sets}
+use borrow.Author.Tests.{leb-true}
+use Rattle.laws.proofs.Choice.{both}
+use Rattle.mechanism.specs.Check.{isAccepted, andThen, refusedIf, checkOf, callChecked}
+use Rattle.mechanism.specs.Pose.{poseFits}
+use Rattle.mechanism.specs.declared.Checked.{Checked}
+use Rattle.mechanism.specs.declared.Checked.the-variants.{Accepted, Refused}
+use Rattle.mechanism.specs.declared.Mechanism.{Mechanism}
+use Rattle.mechanism.specs.declared.Problem.{Problem}
+use Rattle.mechanism.specs.declared.Problem.the-variants.{PoseNotMatching, NoSuchThing, TooFewRows}
+use Rattle.mechanism.specs.declared.pose.Pose.{Pose}
+use Rattle.mechanism.proofs.Checks.{call-accepted, accepted-few}
+use Rattle.sides.specs.Contacts.{mechanismBound}
+use Rattle.shown_rows.specs.declared.RowsAnswer.{RowsAnswer}
+use Rattle.shown_rows.specs.Rows.{Put, Room, roomFor, rowsChecked, answerIf, ifAccepted, rowsOf, gradsOf, slipsOf, placeRow, valueRow}
+
+-- ---- the list of a call whose room is asked last
+still-refused : (c : Checked) (fits room : Bool) (p : Problem)
+    → andThen c (andThen (refusedIf (not fits) PoseNotMatching) (andThen (refusedIf (not true) NoSuchThing) (refusedIf (not true) TooFewRows))) ≡ Refused p
+    → andThen c (andThen (refusedIf (not fits) PoseNotMatching) (andThen (refusedIf (not true) NoSuchThing) (refusedIf (not room) TooFewRows))) ≡ Refused p
+still-refused Accepted true room p e = absurd (false≢true (sym (ap isAccepted e)))
+still-refused Accepted false room p e = e
+still-refused (Refused x) fits room p e = e
+
+pub call-refused : (m : Mechanism) (fits room : Bool) (p : Problem) → callChecked m fits true true ≡ Refused p → callChecked m fits true room ≡ Refused p
+call-refused m fits room p e = still-refused (checkOf m) fits room p e
+
+pub room-last : (m : Mechanism) (fits room : Bool) → callChecked m fits true true ≡ Accepted → callChecked m fits true room ≡ refusedIf (not room) TooFewRows
+room-last m fits room e =
+    let a = call-accepted m fits true true e in
+    ap₂ (λ (c : Checked) (b : Bool). andThen c (andThen (refusedIf (not b) PoseNotMatching) (andThen (refusedIf (not true) NoSuchThing) (refusedIf (not room) TooFewRows)))) (a .0) (a .1)
+
+-- ---- room
+module _ (m : Mechanism) (places : List (List ℕ)) (values : List (List Float)) (grad slip : List Float) where
+  -- what is tested with the bound that was computed
+  pub room-is : {bound : ℕ} {b : Bool} → bound ≡ mechanismBound m → ((leb bound (length places) && leb bound (length values)) && (leb (bound * m .bodies .coords) (length grad) && leb (bound * m .bodies .coords) (length slip))) ≡ b
+      → roomFor m (length places) (length values) (length grad) (length slip) ≡ b
+  room-is e t = ap (λ (k : ℕ). (leb k (length places) && leb k (length values)) && (leb (k * m .bodies .coords) (length grad) && leb (k * m .bodies .coords) (length slip))) (sym e) ∙ t
+
+  pub has-room : roomFor m (length places) (length values) (length grad) (length slip) ≡ true → Room (m .bodies .coords) 0 (mechanismBound m) places values grad slip
+  has-room e =
+      let a = both (leb (mechanismBound m) (length places) && leb (mechanismBound m) (length values)) (leb (mechanismBound m * m .bodies .coords) (length grad) && leb (mechanismBound m * m .bodies .coords) (length slip)) e in
+      let b = both (leb (mechanismBound m) (length places)) (leb (mechanismBound m) (length values)) (a .0) in
+      let c = both (leb (mechanismBound m * m .bodies .coords) (length grad)) (leb (mechanismBound m * m .bodies .coords) (length slip)) (a .1) in
+      let z = zero-add (mechanismBound m) in
+      record {
+        places-room = subst (λ (k : ℕ). k ≤ length places) (sym z) (leb-true (mechanismBound m) (length places) (b .0));
+        values-room = subst (λ (k : ℕ). k ≤ length values) (sym z) (leb-true (mechanismBound m) (length values) (b .1));
+        grad-room = subst (λ (k : ℕ). k * m .bodies .coords ≤ length grad) (sym z) (leb-true (mechanismBound m * m .bodies .coords) (length grad) (c .0));
+        slip-room = subst (λ (k : ℕ). k * m .bodies .coords ≤ length slip) (sym z) (leb-true (mechanismBound m * m .bodies .coords) (length slip) (c .1));
+      }
+
+pub columns-small : (m : Mechanism) (bound : ℕ) → checkOf m ≡ Accepted → bound ≤ 12544 → bound * m .bodies .coords ≤ 200704
+columns-small m bound e h =
+    let p : bound * m .bodies .coords ≤ 12544 * 16 = mul-le-mul h (accepted-few m e .coords) in
+    omega (arith, p)
+
+-- ---- what is answered
+module _ (m : Mechanism) (q : Pose) (margin : Float) (places : List (List ℕ)) (values : List (List Float)) (grad slip : List Float) where
+  abbrev checked : Checked
+  checked = rowsChecked m q (length places) (length values) (length grad) (length slip)
+
+  abbrev Answered : RowsAnswer → List (List ℕ) → List (List Float) → List Float → List Float → Type 0
+  Answered r places′ values′ grad′ slip′ =
+      (r ≡ answerIf checked (length (rowsOf m q margin)))
+      × ((places′ ≡ ifAccepted checked (sets places 0 (map placeRow (rowsOf m q margin))) places)
+      × ((values′ ≡ ifAccepted checked (sets values 0 (map valueRow (rowsOf m q margin))) values)
+      × ((grad′ ≡ ifAccepted checked (sets grad 0 (gradsOf m q margin)) grad)
+      × (slip′ ≡ ifAccepted checked (sets slip 0 (slipsOf m q margin)) slip))))
+
+  pub answers-refused : {r : RowsAnswer} (p : Problem) → checked ≡ Refused p → r ≡ answerIf (Refused p) 0 → Answered r places values grad slip
+  answers-refused p e a = (
+    a ∙ sym (ap (λ (c : Checked). answerIf c (length (rowsOf m q margin))) e),
+    (
+      sym (ap (λ (c : Checked). ifAccepted c (sets places 0 (map placeRow (rowsOf m q margin))) places) e),
+      (
+        sym (ap (λ (c : Checked). ifAccepted c (sets values 0 (map valueRow (rowsOf m q margin))) values) e),
+        (
+          sym (ap (λ (c : Checked). ifAccepted c (sets grad 0 (gradsOf m q margin)) grad) e),
+          sym (ap (λ (c : Checked). ifAccepted c (sets slip 0 (slipsOf m q margin)) slip) e),
+        ),
+      ),
+    ),
+  )
+
+  pub answers-rows : {n : ℕ} {places′ : List (List ℕ)} {values′ : List (List Float)} {grad′ slip′ : List Float} → checked ≡ Accepted
+      → Put (m .bodies .coords) (map placeRow (rowsOf m q margin)) (map valueRow (rowsOf m q margin)) (gradsOf m q margin) (slipsOf m q margin) 0 n places places′ values values′ grad grad′ slip slip′
+      → Answered (record { checked = Accepted; count = n }) places′ values′ grad′ slip′
+  answers-rows e u =
+      let z = zero-mul (m .bodies .coords) in (
+        ap (λ (k : ℕ). answerIf Accepted k) (u .end ∙ zero-add (length (map placeRow (rowsOf m q margin))) ∙ length-map (rowsOf m q margin) placeRow)
+            ∙ sym (ap (λ (c : Checked). answerIf c (length (rowsOf m q margin))) e),
+        (
+          u .placed ∙ sym (ap (λ (c : Checked). ifAccepted c (sets places 0 (map placeRow (rowsOf m q margin))) places) e),
+          (
+            u .valued ∙ sym (ap (λ (c : Checked). ifAccepted c (sets values 0 (map valueRow (rowsOf m q margin))) values) e),
+            (
+              u .grads ∙ ap (λ (k : ℕ). sets grad k (gradsOf m q margin)) z ∙ sym (ap (λ (c : Checked). ifAccepted c (sets grad 0 (gradsOf m q margin)) grad) e),
+              u .slips ∙ ap (λ (k : ℕ). sets slip k (slipsOf m q margin)) z ∙ sym (ap (λ (c : Checked). ifAccepted c (sets slip 0 (slipsOf m q margin)) slip) e),
+            ),
+          ),
+        ),
+      )
+
+-- the answer of the whole list of refusals, where all but the room is known
+module _ (m : Mechanism) (q : Pose) (a b c d : ℕ) where
+  pub all-refused : (p : Problem) → callChecked m (poseFits (m .bodies) q) true true ≡ Refused p → rowsChecked m q a b c d ≡ Refused p
+  all-refused p e = call-refused m (poseFits (m .bodies) q) (roomFor m a b c d) p e
+
+  pub all-accepted : callChecked m (poseFits (m .bodies) q) true true ≡ Accepted → roomFor m a b c d ≡ true → rowsChecked m q a b c d ≡ Accepted
+  all-accepted e r = room-last m (poseFits (m .bodies) q) (roomFor m a b c d) e ∙ ap (λ (t : Bool). refusedIf (not t) TooFewRows) r
+
+  pub too-few : callChecked m (poseFits (m .bodies) q) true true ≡ Accepted → roomFor m a b c d ≡ false → rowsChecked m q a b c d ≡ Refused TooFewRows
+  too-few e r = room-last m (poseFits (m .bodies) q) (roomFor m a b c d) e ∙ ap (λ (t : Bool). refusedIf (not t) TooFewRows) r
