@@ -8,6 +8,7 @@ use mathlib.Core.List.{List, [], _∷_, _++_, map, map-append, append-nil}
 use lib.Ieee.{Float}
 use lib.ListN.{length, set, take, getD, length-append, length-map, length-take}
 use lib.Seq.{sets, length-sets, take-suc}
+use Rattle.mechanism.specs.Piece.{letterOf, partOf, segOf}
 use Rattle.laws.specs.Lists.{flat}
 use Rattle.laws.proofs.Lists.{flat-append, flat-short}
 use Rattle.laws.proofs.Writing.{sets-append}
@@ -22,7 +23,7 @@ use Rattle.sides.specs.declared.PlacedDisc.{PlacedDisc}
 use Rattle.sides.specs.declared.PlacedFace.{PlacedFace}
 use Rattle.sides.specs.declared.SideFeatures.{SideFeatures}
 use Rattle.candidates.specs.declared.Candidate.{Candidate}
-use Rattle.candidates.specs.Candidates.{reading, keptIf, exchanged, realOf, centerReal, readAB, readBA, readDiscs, readCenter, each, facesIn, discsIn, FewPlaced, letterOf, partOf, segOf, nearRow, namedRow, Written}
+use Rattle.candidates.specs.Candidates.{reading, keptIf, exchanged, realOf, centerReal, readAB, readBA, readDiscs, readCenter, each, facesIn, discsIn, FewPlaced, nearRow, namedRow, Written}
 
 pub wrote-nothing : (at : ℕ) (near : List (List Float)) (named : List (List ℕ)) → Written [] at at near near named named
 wrote-nothing at near named = record { end = sym (add-zero at); nears = refl; names = refl }

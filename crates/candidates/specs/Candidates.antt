@@ -21,6 +21,7 @@ use Rattle.geometry.specs.declared.signed.MaybeProximity.{MaybeProximity}
 use Rattle.geometry.specs.declared.signed.MaybeProximity.the-variants.{SomeProximity, NoProximity}
 use Rattle.geometry.specs.declared.signed.Proximity.{Proximity}
 use Rattle.mechanism.specs.Check.{pairDrawn}
+use Rattle.mechanism.specs.Piece.{letterOf, partOf, segOf}
 use Rattle.mechanism.specs.Pose.{isWorld, rotateOf, worldOf, placementAt}
 use Rattle.mechanism.specs.declared.Outlines.{Outlines}
 use Rattle.mechanism.specs.declared.Parts.{Parts}
@@ -164,25 +165,6 @@ pub record FewPlaced (a b : SideFeatures) : Type 0 where
 -- ---- in lent arrays: a row of five numbers, the gap, the normal and the point; and a row of seven whole numbers, both pieces and who decides
 abbrev pub nearRow : Candidate → List Float
 nearRow c = c .near .gap ∷ c .near .normal .x ∷ c .near .normal .y ∷ c .near .point .x ∷ c .near .point .y ∷ []
-
--- 0 a segment, 1 an arc, 2 a vertex, 3 a centre
-abbrev pub letterOf : Piece → ℕ
-letterOf (Piece.Segment p s) = 0
-letterOf (Piece.Arc p s) = 1
-letterOf (Piece.Vertex p s) = 2
-letterOf (Piece.Center p) = 3
-
-abbrev pub partOf : Piece → ℕ
-partOf (Piece.Segment p s) = p
-partOf (Piece.Arc p s) = p
-partOf (Piece.Vertex p s) = p
-partOf (Piece.Center p) = p
-
-abbrev pub segOf : Piece → ℕ
-segOf (Piece.Segment p s) = s
-segOf (Piece.Arc p s) = s
-segOf (Piece.Vertex p s) = s
-segOf (Piece.Center p) = 0
 
 abbrev pub namedRow : Candidate → List ℕ
 namedRow c = letterOf (c .a) ∷ partOf (c .a) ∷ segOf (c .a) ∷ letterOf (c .b) ∷ partOf (c .b) ∷ segOf (c .b) ∷ c .who ∷ []

@@ -9,7 +9,7 @@ ghost use Rattle.geometry.specs.Signed.{discOnFace, centerOnFace, onA, onB};
 ghost use Rattle.mechanism.specs.Check.{FewParts, pairDrawn};
 ghost use Rattle.material.specs.Material.{materialOf};
 ghost use Rattle.drawing.specs.Drawing.{sideMaterial};
-ghost use Rattle.candidates.specs.Candidates.{turnedOf, worldFace, worldDisc, placeFace, placeDisc, facesIn, discsIn, facesAt, discsAt, isDeep, realOf, centerReal, keptIf, exchanged, reading, readAB, readBA, readDiscs, readCenter, each, foundDeep, discDeep, anyDeep, centerDeep, noMaterial, placedCandidates, FewPlaced, pairCandidates, letterOf, partOf, segOf, Written, candidateRoom};
+ghost use Rattle.candidates.specs.Candidates.{turnedOf, worldFace, worldDisc, placeFace, placeDisc, facesIn, discsIn, facesAt, discsAt, isDeep, realOf, centerReal, keptIf, exchanged, reading, readAB, readBA, readDiscs, readCenter, each, foundDeep, discDeep, anyDeep, centerDeep, noMaterial, placedCandidates, FewPlaced, pairCandidates, Written, candidateRoom};
 use drawing::Polygons;
 use drawing::draw;
 use drawing::side_chosen;
@@ -19,18 +19,24 @@ use geometry::signed::Disc;
 use geometry::signed::Face;
 use geometry::signed::MaybeProximity;
 use geometry::signed::Proximity;
+use material::Spot;
 use material::depth;
 use material::holds;
 use mechanism::Outlines;
 use mechanism::Parts;
 use mechanism::check::pair_drawn;
 use mechanism::features::Piece;
+use mechanism::features::letter;
+use mechanism::features::part;
+use mechanism::features::seg;
 use mechanism::pair::ContactPair;
 use mechanism::pair::PairGeometry;
 use mechanism::pair::Surface;
 use mechanism::pose::Placement;
 use mechanism::pose::Pose;
 use mechanism::pose::placement_at;
+use mechanism::rows::Place;
+use mechanism::rows::Value;
 use sides::PlacedDisc;
 use sides::PlacedFace;
 use sides::SideFeatures;
@@ -74,41 +80,6 @@ fn world_disc(place: Placement, d: Disc) -> Disc
         radius: d.radius,
         from: turned(place, d.from),
         to: turned(place, d.to),
-    }
-}
-
-// ---- numbers of a piece
-
-fn letter(p: Piece) -> usize
-    ensures { λ r. ⌜ r ≡ letterOf p ⌝ }
-{
-    match p {
-        Piece::Segment { part: _, seg: _ } => 0,
-        Piece::Arc { part: _, seg: _ } => 1,
-        Piece::Vertex { part: _, seg: _ } => 2,
-        Piece::Center { part: _ } => 3,
-    }
-}
-
-fn part(p: Piece) -> usize
-    ensures { λ r. ⌜ r ≡ partOf p ⌝ }
-{
-    match p {
-        Piece::Segment { part, seg: _ } => part,
-        Piece::Arc { part, seg: _ } => part,
-        Piece::Vertex { part, seg: _ } => part,
-        Piece::Center { part } => part,
-    }
-}
-
-fn seg(p: Piece) -> usize
-    ensures { λ r. ⌜ r ≡ segOf p ⌝ }
-{
-    match p {
-        Piece::Segment { part: _, seg } => seg,
-        Piece::Arc { part: _, seg } => seg,
-        Piece::Vertex { part: _, seg } => seg,
-        Piece::Center { part: _ } => 0,
     }
 }
 
@@ -174,8 +145,8 @@ fn place_discs(s: SideFeatures, place: Placement) -> SideFeatures
 
 // Writes a candidate at `at`, where something is read.
 fn put(
-    near: &mut [[f64; 5]],
-    named: &mut [[usize; 7]],
+    near: &mut [Value],
+    named: &mut [Place],
     at: usize,
     a: Piece,
     b: Piece,
@@ -204,7 +175,7 @@ fn is_deep(gap: f64) -> bool
 }
 
 // Whether a reading counts: not a deep one, or one whose point the material holds.
-fn real(points: &[[f64; 2]], starts: &[usize], n: Polygons, gap: f64, p: Point) -> bool
+fn real(points: &[Spot], starts: &[usize], n: Polygons, gap: f64, p: Point) -> bool
     ensures { λ r. ⌜ r ≡ realOf (materialOf (now (points .entry)) (now (starts .entry)) (n .solids) (n .all)) gap p ⌝ }
 {
     if is_deep(gap) {
@@ -214,7 +185,7 @@ fn real(points: &[[f64; 2]], starts: &[usize], n: Polygons, gap: f64, p: Point) 
 }
 
 // Side A's disc on side B's face.
-fn on_face_b(points: &[[f64; 2]], starts: &[usize], n: Polygons, d: Disc, f: Face) -> MaybeProximity
+fn on_face_b(points: &[Spot], starts: &[usize], n: Polygons, d: Disc, f: Face) -> MaybeProximity
     ensures { λ r. ⌜ r ≡ keptIf (λ x. realOf (materialOf (now (points .entry)) (now (starts .entry)) (n .solids) (n .all)) (x .gap) (onA x)) (discOnFace d f) ⌝ }
 {
     let found = geometry::signed::disc_on_face(d, f);
@@ -231,7 +202,7 @@ fn on_face_b(points: &[[f64; 2]], starts: &[usize], n: Polygons, d: Disc, f: Fac
 }
 
 // Side B's disc on side A's face, read from A.
-fn on_face_a(points: &[[f64; 2]], starts: &[usize], n: Polygons, d: Disc, f: Face) -> MaybeProximity
+fn on_face_a(points: &[Spot], starts: &[usize], n: Polygons, d: Disc, f: Face) -> MaybeProximity
     ensures { λ r. ⌜ r ≡ keptIf (λ x. realOf (materialOf (now (points .entry)) (now (starts .entry)) (n .solids) (n .all)) (x .gap) (onB x)) (exchanged (discOnFace d f)) ⌝ }
 {
     let found = geometry::signed::disc_on_face(d, f);
@@ -250,12 +221,12 @@ fn on_face_a(points: &[[f64; 2]], starts: &[usize], n: Polygons, d: Disc, f: Fac
 
 // A disc of side A on the faces of side B.
 fn disc_on_b(
-    near: &mut [[f64; 5]],
-    named: &mut [[usize; 7]],
+    near: &mut [Value],
+    named: &mut [Place],
     at: usize,
     d: PlacedDisc,
     b: SideFeatures,
-    points: &[[f64; 2]],
+    points: &[Spot],
     starts: &[usize],
     n: Polygons,
 ) -> usize
@@ -279,12 +250,12 @@ fn disc_on_b(
 
 // All discs of side A on the faces of side B.
 fn discs_on_b(
-    near: &mut [[f64; 5]],
-    named: &mut [[usize; 7]],
+    near: &mut [Value],
+    named: &mut [Place],
     at: usize,
     a: SideFeatures,
     b: SideFeatures,
-    points: &[[f64; 2]],
+    points: &[Spot],
     starts: &[usize],
     n: Polygons,
 ) -> usize
@@ -304,12 +275,12 @@ fn discs_on_b(
 
 // A disc of side B on the faces of side A.
 fn disc_on_a(
-    near: &mut [[f64; 5]],
-    named: &mut [[usize; 7]],
+    near: &mut [Value],
+    named: &mut [Place],
     at: usize,
     d: PlacedDisc,
     a: SideFeatures,
-    points: &[[f64; 2]],
+    points: &[Spot],
     starts: &[usize],
     n: Polygons,
 ) -> usize
@@ -333,12 +304,12 @@ fn disc_on_a(
 
 // All discs of side B on the faces of side A.
 fn discs_on_a(
-    near: &mut [[f64; 5]],
-    named: &mut [[usize; 7]],
+    near: &mut [Value],
+    named: &mut [Place],
     at: usize,
     a: SideFeatures,
     b: SideFeatures,
-    points: &[[f64; 2]],
+    points: &[Spot],
     starts: &[usize],
     n: Polygons,
 ) -> usize
@@ -358,8 +329,8 @@ fn discs_on_a(
 
 // A disc of side A on the discs of side B.
 fn disc_on_discs(
-    near: &mut [[f64; 5]],
-    named: &mut [[usize; 7]],
+    near: &mut [Value],
+    named: &mut [Place],
     at: usize,
     d: PlacedDisc,
     b: SideFeatures,
@@ -384,8 +355,8 @@ fn disc_on_discs(
 
 // All discs of side A on the discs of side B.
 fn discs_on_discs(
-    near: &mut [[f64; 5]],
-    named: &mut [[usize; 7]],
+    near: &mut [Value],
+    named: &mut [Place],
     at: usize,
     a: SideFeatures,
     b: SideFeatures,
@@ -406,7 +377,7 @@ fn discs_on_discs(
 
 // ---- the centre of side B on the faces of side A
 
-fn center_real(points: &[[f64; 2]], starts: &[usize], n: Polygons, p: Point, gap: f64) -> bool
+fn center_real(points: &[Spot], starts: &[usize], n: Polygons, p: Point, gap: f64) -> bool
     ensures { λ r. ⌜ r ≡ centerReal (materialOf (now (points .entry)) (now (starts .entry)) (n .solids) (n .all)) p gap ⌝ }
 {
     if is_deep(gap) {
@@ -415,13 +386,7 @@ fn center_real(points: &[[f64; 2]], starts: &[usize], n: Polygons, p: Point, gap
     true
 }
 
-fn center_on(
-    points: &[[f64; 2]],
-    starts: &[usize],
-    n: Polygons,
-    c: Point,
-    f: Face,
-) -> MaybeProximity
+fn center_on(points: &[Spot], starts: &[usize], n: Polygons, c: Point, f: Face) -> MaybeProximity
     ensures { λ r. ⌜ r ≡ keptIf (λ x. centerReal (materialOf (now (points .entry)) (now (starts .entry)) (n .solids) (n .all)) c (x .gap)) (centerOnFace c f) ⌝ }
 {
     let found = geometry::signed::center_on_face(c, f);
@@ -438,12 +403,12 @@ fn center_on(
 }
 
 fn center_on_faces(
-    near: &mut [[f64; 5]],
-    named: &mut [[usize; 7]],
+    near: &mut [Value],
+    named: &mut [Place],
     piece: Piece,
     c: Point,
     a: SideFeatures,
-    points: &[[f64; 2]],
+    points: &[Spot],
     starts: &[usize],
     n: Polygons,
 ) -> usize
@@ -529,8 +494,8 @@ fn center_deep(c: Point, t: SideFeatures) -> bool
 
 // Of a features pair with something deep: both materials are drawn.
 fn deep_features(
-    near: &mut [[f64; 5]],
-    named: &mut [[usize; 7]],
+    near: &mut [Value],
+    named: &mut [Place],
     ps: Parts,
     o: Outlines,
     q: Pose,
@@ -586,8 +551,8 @@ fn deep_features(
 
 // Of a features pair with nothing deep: no material is asked for.
 fn plain_features(
-    near: &mut [[f64; 5]],
-    named: &mut [[usize; 7]],
+    near: &mut [Value],
+    named: &mut [Place],
     a: SideFeatures,
     b: SideFeatures,
 ) -> usize
@@ -607,8 +572,8 @@ fn plain_features(
 }
 
 fn features_candidates(
-    near: &mut [[f64; 5]],
-    named: &mut [[usize; 7]],
+    near: &mut [Value],
+    named: &mut [Place],
     ps: Parts,
     o: Outlines,
     q: Pose,
@@ -627,8 +592,8 @@ fn features_candidates(
 
 // Of a centre pair with something deep: side A's parts are drawn, no cut taken away.
 fn deep_center(
-    near: &mut [[f64; 5]],
-    named: &mut [[usize; 7]],
+    near: &mut [Value],
+    named: &mut [Place],
     ps: Parts,
     o: Outlines,
     q: Pose,
@@ -663,8 +628,8 @@ fn deep_center(
 }
 
 fn plain_center(
-    near: &mut [[f64; 5]],
-    named: &mut [[usize; 7]],
+    near: &mut [Value],
+    named: &mut [Place],
     piece: Piece,
     c: Point,
     a: SideFeatures,
@@ -683,8 +648,8 @@ fn plain_center(
 }
 
 fn center_candidates(
-    near: &mut [[f64; 5]],
-    named: &mut [[usize; 7]],
+    near: &mut [Value],
+    named: &mut [Place],
     ps: Parts,
     o: Outlines,
     q: Pose,
@@ -712,8 +677,8 @@ fn place_side(s: SideFeatures, q: Pose) -> SideFeatures
 }
 
 fn drawn_candidates(
-    near: &mut [[f64; 5]],
-    named: &mut [[usize; 7]],
+    near: &mut [Value],
+    named: &mut [Place],
     ps: Parts,
     o: Outlines,
     q: Pose,
@@ -749,8 +714,8 @@ fn candidate_room(ps: Parts, p: ContactPair, near: usize, named: usize) -> bool
 
 // Writes the candidates of a pair at a pose, in order; nothing where a side is not drawn or the arrays are too short.
 pub fn pair_candidates(
-    near: &mut [[f64; 5]],
-    named: &mut [[usize; 7]],
+    near: &mut [Value],
+    named: &mut [Place],
     ps: Parts,
     o: Outlines,
     q: Pose,

@@ -17,6 +17,7 @@ pub mod samples;
 use geometry::Drawn;
 use geometry::Point;
 use geometry::Seg;
+use material::Spot;
 use mechanism::Outlines;
 use mechanism::Parts;
 use mechanism::check::parts_over;
@@ -177,7 +178,7 @@ pub fn side_chosen(ps: Parts, u: Surface, cuts: bool) -> Chosen
 // ---- polygons
 
 // Writes the points of a segment as it is drawn, placed, from `at` on.
-fn draw_seg(points: &mut [[f64; 2]], at: usize, s: Seg, place: Placement) -> usize
+fn draw_seg(points: &mut [Spot], at: usize, s: Seg, place: Placement) -> usize
     requires { ⌜ at + 8 ≤ length (now points) ⌝ }
     ensures { λ r. ⌜ (r ≡ at + length (drawnPoints s)) × (now (points .exit) ≡ sets (now (points .entry)) at (map rowOf (map (worldOf place) (drawnPoints s)))) ⌝ }
 {
@@ -193,7 +194,7 @@ fn draw_seg(points: &mut [[f64; 2]], at: usize, s: Seg, place: Placement) -> usi
 }
 
 // Writes a silhouette's polygon, placed, from `at` on.
-fn draw_polygon(points: &mut [[f64; 2]], at: usize, sil: SilhouetteSegs, place: Placement) -> usize
+fn draw_polygon(points: &mut [Spot], at: usize, sil: SilhouetteSegs, place: Placement) -> usize
     requires { ⌜ (sil .count ≤ 94) × (at + 8 * sil .count ≤ length (now points)) ⌝ }
     ensures { λ r. ⌜ (r ≡ at + length (flat drawnPoints (segsIn sil))) × (now (points .exit) ≡ sets (now (points .entry)) at (map rowOf (map (worldOf place) (flat drawnPoints (segsIn sil))))) ⌝ }
 {
@@ -210,7 +211,7 @@ fn draw_polygon(points: &mut [[f64; 2]], at: usize, sil: SilhouetteSegs, place: 
 }
 
 // Writes the polygon of part i.
-fn draw_part(points: &mut [[f64; 2]], at: usize, ps: Parts, o: Outlines, q: Pose, i: usize) -> usize
+fn draw_part(points: &mut [Spot], at: usize, ps: Parts, o: Outlines, q: Pose, i: usize) -> usize
     requires { ⌜ FewParts ps × (i < ps .count) × (at + 16 * segsOf ps i ≤ length (now points)) ⌝ }
     ensures { λ r. ⌜ (r ≡ at + length (polygonOf ps o q i)) × (now (points .exit) ≡ sets (now (points .entry)) at (map rowOf (polygonOf ps o q i))) ⌝ }
 {
@@ -227,7 +228,7 @@ struct Cursor {
 
 // Writes the polygons of the parts chosen as w, in order, behind those that are there.
 fn draw_all(
-    points: &mut [[f64; 2]],
+    points: &mut [Spot],
     starts: &mut [usize],
     ps: Parts,
     o: Outlines,
@@ -263,7 +264,7 @@ fn room_for(ps: Parts, points: usize, starts: usize) -> bool
 
 // Writes the polygons of the chosen parts, the solids first, and where each of them starts; nothing where a limit is passed or the arrays are too short.
 pub fn draw(
-    points: &mut [[f64; 2]],
+    points: &mut [Spot],
     starts: &mut [usize],
     ps: Parts,
     o: Outlines,

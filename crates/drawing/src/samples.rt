@@ -15,6 +15,7 @@ use super::draw_seg;
 use super::is_read_cut;
 use geometry::Point;
 use geometry::Seg;
+use material::Spot;
 use mechanism::Outlines;
 use mechanism::Parts;
 use mechanism::check::parts_over;
@@ -27,10 +28,13 @@ use mechanism::pose::placement_at;
 use silhouette::SilhouetteSegs;
 use silhouette::silhouette_at;
 
+// The two ends of a segment of a cut.
+pub type Mouth = [f64; 4];
+
 // ---- mouths
 
 // Writes the ends of a silhouette's segments from `at` on.
-fn put_ends(mouths: &mut [[f64; 4]], at: usize, sil: SilhouetteSegs) -> usize
+fn put_ends(mouths: &mut [Mouth], at: usize, sil: SilhouetteSegs) -> usize
     requires { ⌜ (sil .count ≤ 94) × (at + sil .count ≤ length (now mouths)) ⌝ }
     ensures { λ r. ⌜ (r ≡ at + length (segsIn sil)) × (now (mouths .exit) ≡ sets (now (mouths .entry)) at (map mouthRow (map endsOf (segsIn sil)))) ⌝ }
 {
@@ -47,7 +51,7 @@ fn put_ends(mouths: &mut [[f64; 4]], at: usize, sil: SilhouetteSegs) -> usize
     at + i
 }
 
-fn put_mouths(mouths: &mut [[f64; 4]], ps: Parts, o: Outlines) -> usize
+fn put_mouths(mouths: &mut [Mouth], ps: Parts, o: Outlines) -> usize
     requires { ⌜ FewParts ps × (768 ≤ length (now mouths)) ⌝ }
     ensures { λ r. ⌜ (r ≡ length (mouthsOf ps o)) × (now (mouths .exit) ≡ sets (now (mouths .entry)) 0 (map mouthRow (mouthsOf ps o))) ⌝ }
 {
@@ -66,7 +70,7 @@ fn put_mouths(mouths: &mut [[f64; 4]], ps: Parts, o: Outlines) -> usize
 }
 
 // Writes the ends of every segment of every cut in the section; nothing where a limit is passed or the array is too short.
-pub fn draw_mouths(mouths: &mut [[f64; 4]], ps: Parts, o: Outlines) -> usize
+pub fn draw_mouths(mouths: &mut [Mouth], ps: Parts, o: Outlines) -> usize
     ensures { λ r. ⌜ (r ≡ cond (mouthRoom ps (length (now (mouths .entry)))) (length (mouthsOf ps o)) 0) × (now (mouths .exit) ≡ cond (mouthRoom ps (length (now (mouths .entry)))) (sets (now (mouths .entry)) 0 (map mouthRow (mouthsOf ps o))) (now (mouths .entry))) ⌝ }
 {
     let n = mouths.len();
@@ -91,7 +95,7 @@ fn same_ends(a: Point, b: Point, c: Point, d: Point) -> bool
 }
 
 // Whether the segment from a to b is a mouth.
-fn is_mouth(mouths: &[[f64; 4]], a: Point, b: Point) -> bool
+fn is_mouth(mouths: &[Mouth], a: Point, b: Point) -> bool
     ensures { λ r. ⌜ r ≡ isMouth (mouthsIn (now (mouths .entry))) (record { a = a; b = b }) ⌝ }
 {
     let n = mouths.len();
@@ -120,7 +124,7 @@ fn on_line(a: Point, b: Point, k: u32) -> Point
 }
 
 // Writes seventeen points along the line from a to b, placed, from `at` on.
-fn put_line(samples: &mut [[f64; 2]], at: usize, a: Point, b: Point, place: Placement) -> usize
+fn put_line(samples: &mut [Spot], at: usize, a: Point, b: Point, place: Placement) -> usize
     requires { ⌜ at + 17 ≤ length (now samples) ⌝ }
     ensures { λ r. ⌜ (r ≡ at + 17) × (now (samples .exit) ≡ sets (now (samples .entry)) at (map rowOf (map (worldOf place) (listIn (onLine a b) 17 0)))) ⌝ }
 {
@@ -135,7 +139,7 @@ fn put_line(samples: &mut [[f64; 2]], at: usize, a: Point, b: Point, place: Plac
     to
 }
 
-fn put_points(samples: &mut [[f64; 2]], at: usize, s: Seg, place: Placement) -> usize
+fn put_points(samples: &mut [Spot], at: usize, s: Seg, place: Placement) -> usize
     requires { ⌜ at + 17 ≤ length (now samples) ⌝ }
     ensures { λ r. ⌜ (r ≡ at + length (samplePoints s)) × (now (samples .exit) ≡ sets (now (samples .entry)) at (map rowOf (map (worldOf place) (samplePoints s)))) ⌝ }
 {
@@ -146,13 +150,7 @@ fn put_points(samples: &mut [[f64; 2]], at: usize, s: Seg, place: Placement) -> 
 }
 
 // Writes the samples of a segment, none where it is a mouth.
-fn put_seg(
-    samples: &mut [[f64; 2]],
-    at: usize,
-    s: Seg,
-    place: Placement,
-    mouths: &[[f64; 4]],
-) -> usize
+fn put_seg(samples: &mut [Spot], at: usize, s: Seg, place: Placement, mouths: &[Mouth]) -> usize
     requires { ⌜ at + 17 ≤ length (now samples) ⌝ }
     ensures { λ r. ⌜ (r ≡ at + length (samplesOf (mouthsIn (now (mouths .entry))) s)) × (now (samples .exit) ≡ sets (now (samples .entry)) at (map rowOf (map (worldOf place) (samplesOf (mouthsIn (now (mouths .entry))) s)))) ⌝ }
 {
@@ -163,10 +161,10 @@ fn put_seg(
 }
 
 fn put_samples(
-    samples: &mut [[f64; 2]],
+    samples: &mut [Spot],
     sil: SilhouetteSegs,
     place: Placement,
-    mouths: &[[f64; 4]],
+    mouths: &[Mouth],
 ) -> usize
     requires { ⌜ (sil .count ≤ 94) × (1598 ≤ length (now samples)) ⌝ }
     ensures { λ r. ⌜ (r ≡ length (flat (samplesOf (mouthsIn (now (mouths .entry)))) (segsIn sil))) × (now (samples .exit) ≡ sets (now (samples .entry)) 0 (map rowOf (map (worldOf place) (flat (samplesOf (mouthsIn (now (mouths .entry)))) (segsIn sil))))) ⌝ }
@@ -191,8 +189,8 @@ fn sample_room(ps: Parts, i: usize, room: usize) -> bool
 
 // Writes the samples of part i, placed; nothing where there is no such part or the array is too short.
 pub fn draw_samples(
-    samples: &mut [[f64; 2]],
-    mouths: &[[f64; 4]],
+    samples: &mut [Spot],
+    mouths: &[Mouth],
     ps: Parts,
     o: Outlines,
     q: Pose,

@@ -32,7 +32,7 @@ use sides::contacts::PairFeatures;
 use sides::contacts::pair_features_at;
 
 // Where the projection of p falls along the segment from a to b, 0 at its start and 1 at its end.
-fn along(p: Point, a: Point, b: Point) -> f64
+pub fn along(p: Point, a: Point, b: Point) -> f64
     ensures { λ r. ⌜ r ≡ alongOf p a b ⌝ }
 {
     let ex = b.x - a.x;

@@ -15,6 +15,9 @@ use ieee::num::infinity;
 use ieee::num::max;
 use ieee::root::root;
 
+// A point by its two coordinates.
+pub type Spot = [f64; 2];
+
 // i where it is below n, and 0 where it is n: i % n.
 fn wrap(i: usize, n: usize) -> usize
     requires { ⌜ (i ≤ n) × (0 < n) ⌝ }
@@ -38,7 +41,7 @@ fn crosses(a: Point, b: Point, p: Point) -> bool
 }
 
 // Whether p is inside a closed polygon. The closing edge is taken after the loop, so that the loop wraps no index.
-pub fn inside(poly: &[[f64; 2]], p: Point) -> bool
+pub fn inside(poly: &[Spot], p: Point) -> bool
     ensures { λ r. ⌜ r ≡ insideOf p (pointsOf (now (poly .entry))) ⌝ }
 {
     let n = poly.len();
@@ -76,7 +79,7 @@ fn start_at(starts: &[usize], k: usize) -> usize
 }
 
 // The points from a up to e, as far as there are any.
-fn part<'a>(points: &'a [[f64; 2]], a: usize, e: usize) -> &'a [[f64; 2]]
+fn part<'a>(points: &'a [Spot], a: usize, e: usize) -> &'a [Spot]
     ensures { λ r. ⌜ now r ≡ between (now (points .entry)) a e ⌝ }
 {
     let n = points.len();
@@ -93,7 +96,7 @@ fn part<'a>(points: &'a [[f64; 2]], a: usize, e: usize) -> &'a [[f64; 2]]
 }
 
 // Whether p is inside one of the polygons from `from` up to `to`.
-fn any_inside(points: &[[f64; 2]], starts: &[usize], from: usize, to: usize, p: Point) -> bool
+fn any_inside(points: &[Spot], starts: &[usize], from: usize, to: usize, p: Point) -> bool
     ensures { λ r. ⌜ r ≡ any (insideOf p) (listIn (polyAt (now (points .entry)) (now (starts .entry))) (to - from) from) ⌝ }
 {
     let mut i = from;
@@ -109,7 +112,7 @@ fn any_inside(points: &[[f64; 2]], starts: &[usize], from: usize, to: usize, p: 
 }
 
 // Whether p is inside a part and outside every cut.
-pub fn holds(points: &[[f64; 2]], starts: &[usize], solids: usize, all: usize, p: Point) -> bool
+pub fn holds(points: &[Spot], starts: &[usize], solids: usize, all: usize, p: Point) -> bool
     ensures { λ r. ⌜ r ≡ holdsOf (materialOf (now (points .entry)) (now (starts .entry)) solids all) p ⌝ }
 {
     if any_inside(points, starts, 0, solids, p) {
@@ -138,7 +141,7 @@ fn square(a: Point, b: Point, p: Point) -> f64
 }
 
 // The least of `from` and the squares of p's distances from the polygon's edges.
-fn least_of(poly: &[[f64; 2]], p: Point, from: f64) -> f64
+fn least_of(poly: &[Spot], p: Point, from: f64) -> f64
     requires { ⌜ isNan from ≡ false ⌝ }
     ensures { λ r. ⌜ (r ≡ foldl (λ x e. minOf x (squareOf p e)) from (edgesOf (pointsOf (now (poly .entry))))) × (isNan r ≡ false) ⌝ }
 {
@@ -160,7 +163,7 @@ fn least_of(poly: &[[f64; 2]], p: Point, from: f64) -> f64
 }
 
 // The same over the polygons from `first` up to `to`.
-fn least(points: &[[f64; 2]], starts: &[usize], first: usize, to: usize, p: Point, from: f64) -> f64
+fn least(points: &[Spot], starts: &[usize], first: usize, to: usize, p: Point, from: f64) -> f64
     requires { ⌜ isNan from ≡ false ⌝ }
     ensures { λ r. ⌜ (r ≡ foldl (λ x l. foldl (λ x e. minOf x (squareOf p e)) x (edgesOf l)) from (listIn (polyAt (now (points .entry)) (now (starts .entry))) (to - first) first)) × (isNan r ≡ false) ⌝ }
 {
@@ -176,7 +179,7 @@ fn least(points: &[[f64; 2]], starts: &[usize], first: usize, to: usize, p: Poin
 }
 
 // How deep p stands inside the material: its distance to the nearest edge of a part or a cut; zero outside. One root is taken, of the least square.
-pub fn depth(points: &[[f64; 2]], starts: &[usize], solids: usize, all: usize, p: Point) -> f64
+pub fn depth(points: &[Spot], starts: &[usize], solids: usize, all: usize, p: Point) -> f64
     ensures { λ r. ⌜ r ≡ depthOf (materialOf (now (points .entry)) (now (starts .entry)) solids all) p ⌝ }
 {
     if holds(points, starts, solids, all, p) {
@@ -207,7 +210,7 @@ fn high(hi: f64, y: f64) -> f64
 }
 
 // The range of the points' ordinates.
-fn y_range(points: &[[f64; 2]]) -> Range
+fn y_range(points: &[Spot]) -> Range
     ensures { λ r. ⌜ Covers (now (points .entry)) (length (now (points .entry))) (r .lo) (r .hi) ⌝ }
 {
     let n = points.len();
@@ -231,7 +234,7 @@ fn is_outside(lo: f64, hi: f64, y: f64) -> bool
 
 // The same as `depth`, with the points outside a range that covers all polygons settled at once.
 fn depth_in(
-    points: &[[f64; 2]],
+    points: &[Spot],
     starts: &[usize],
     solids: usize,
     all: usize,
@@ -250,11 +253,11 @@ fn depth_in(
 
 // The deepest of `from` and the depths of the samples.
 pub fn deepest(
-    points: &[[f64; 2]],
+    points: &[Spot],
     starts: &[usize],
     solids: usize,
     all: usize,
-    samples: &[[f64; 2]],
+    samples: &[Spot],
     from: f64,
 ) -> f64
     ensures { λ r. ⌜ r ≡ deepestOf (materialOf (now (points .entry)) (now (starts .entry)) solids all) from (pointsOf (now (samples .entry))) ⌝ }

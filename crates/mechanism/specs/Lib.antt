@@ -2,3 +2,4 @@ pub mod Description
 pub mod Check
 pub mod Pose
 pub mod Piece
+pub mod Rows

@@ -1,6 +1,6 @@
 // The pieces of a side that a reading takes (contact/features.rs).
 ghost use mathlib.Core.Path.{_≡_};
-ghost use Rattle.mechanism.specs.Piece.{isDisc};
+ghost use Rattle.mechanism.specs.Piece.{isDisc, letterOf, partOf, segOf};
 
 // A piece, by its part and by its segment in the part's silhouette.
 pub enum Piece {
@@ -32,4 +32,38 @@ impl Piece {
 pub struct Feature {
     pub a: Piece,
     pub b: Piece,
+}
+
+// 0 a segment, 1 an arc, 2 a vertex, 3 a centre.
+pub fn letter(p: Piece) -> usize
+    ensures { λ r. ⌜ r ≡ letterOf p ⌝ }
+{
+    match p {
+        Piece::Segment { part: _, seg: _ } => 0,
+        Piece::Arc { part: _, seg: _ } => 1,
+        Piece::Vertex { part: _, seg: _ } => 2,
+        Piece::Center { part: _ } => 3,
+    }
+}
+
+pub fn part(p: Piece) -> usize
+    ensures { λ r. ⌜ r ≡ partOf p ⌝ }
+{
+    match p {
+        Piece::Segment { part, seg: _ } => part,
+        Piece::Arc { part, seg: _ } => part,
+        Piece::Vertex { part, seg: _ } => part,
+        Piece::Center { part } => part,
+    }
+}
+
+pub fn seg(p: Piece) -> usize
+    ensures { λ r. ⌜ r ≡ segOf p ⌝ }
+{
+    match p {
+        Piece::Segment { part: _, seg } => seg,
+        Piece::Arc { part: _, seg } => seg,
+        Piece::Vertex { part: _, seg } => seg,
+        Piece::Center { part: _ } => 0,
+    }
 }

@@ -21,6 +21,9 @@ pub struct Entry {
     pub cosine: f64,
 }
 
+// The same as three numbers.
+pub type Lent = [f64; 3];
+
 // A point fixed in a body, in the body's frame.
 pub struct MaterialPoint {
     pub body: usize,
@@ -112,7 +115,7 @@ fn slide(parent: Placement, origin: Point, a: Point, travel: f64) -> Placement
     }
 }
 
-fn place(q: &[[f64; 3]], parent: Placement, j: Joint) -> Placement
+fn place(q: &[Lent], parent: Placement, j: Joint) -> Placement
     requires { ⌜ coordBelow (length (now q)) j ≡ true ⌝ }
     ensures { λ r. ⌜ r ≡ placedOf (now (q .entry)) parent j ⌝ }
 {
@@ -134,7 +137,7 @@ fn place(q: &[[f64; 3]], parent: Placement, j: Joint) -> Placement
 }
 
 // Places every body, parent before child.
-fn placements(b: Bodies, q: &[[f64; 3]]) -> Pose
+fn placements(b: Bodies, q: &[Lent]) -> Pose
     requires { ⌜ Rooted b (length (now q)) ⌝ }
     ensures { λ r. ⌜ (r .count ≡ b .count + 1) × (r .placement ≡ placementsOf b (now (q .entry))) ⌝ }
 {
@@ -357,7 +360,7 @@ fn body_numbered(b: Bodies, n: usize) -> Body
 
 impl Mechanism {
     // Places every body for the lent entries: the value, the sine and the cosine of each coordinate.
-    pub fn pose(self, q: &[[f64; 3]]) -> Posed
+    pub fn pose(self, q: &[Lent]) -> Posed
         ensures { λ r. ⌜ r ≡ posedOf (poseChecked self (now (q .entry))) (self .bodies) (now (q .entry)) ⌝ }
     {
         let c = check(self);

@@ -19,12 +19,14 @@ use drawing::draw;
 use drawing::is_own;
 use drawing::is_read_cut;
 use drawing::is_sampled;
+use drawing::samples::Mouth;
 use drawing::samples::draw_mouths;
 use drawing::samples::draw_samples;
 use drawing::side_chosen;
 use drawing::what_is;
 use geometry::Point;
 use ieee::num::max;
+use material::Spot;
 use material::deepest;
 use material::depth;
 use mechanism::Checked;
@@ -51,10 +53,10 @@ struct Owners {
 
 // The deepest that a sample of one of the owners stands inside the material of lent polygons.
 fn sunk_in(
-    points: &[[f64; 2]],
+    points: &[Spot],
     starts: &[usize],
     n: Polygons,
-    mouths: &[[f64; 4]],
+    mouths: &[Mouth],
     ps: Parts,
     o: Outlines,
     q: Pose,
@@ -79,7 +81,7 @@ fn sunk_in(
 }
 
 // The same inside the material of the chosen parts.
-fn sunk(mouths: &[[f64; 4]], ps: Parts, o: Outlines, q: Pose, w: Owners, c: Chosen) -> f64
+fn sunk(mouths: &[Mouth], ps: Parts, o: Outlines, q: Pose, w: Owners, c: Chosen) -> f64
     requires { ⌜ FewParts ps ⌝ }
     ensures { λ r. ⌜ r ≡ sunkBy ps o q (ownerAt w) (mouthsIn (now (mouths .entry))) (chosenMaterial ps o q c) ⌝ }
 {

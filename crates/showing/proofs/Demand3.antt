@@ -1,23 +1,22 @@
--- Demand 3 of one pair's rows and of the governing row, for any n candidates given by their gaps, by whether a piece decides, and by whether two have the same deciding piece.
+-- Demand 3 of one pair's rows, for any n candidates given by their gaps, by whether a piece decides, and by whether two have the same deciding piece.
 -- Assumes nothing.
 use Prim.Native.Nat.{ℕ, zero, suc, _+_, _-_, _<_, _≤_}
 use native.Mathlib.Omega.{arith}
 use native.Mathlib.Nat.{eq-or-lt-of-le, le-of-suc-le-suc}
-use mathlib.Core.Path.{_≡_, refl, sym, ap, subst, _∙_}
+use mathlib.Core.Path.{_≡_, refl, sym, subst}
 use mathlib.Core.Logic.{_⊎_, inl, inr, ⊎-elim}
-use mathlib.Core.Bool.{Bool, true, false, not, _&&_, _||_, cond}
+use mathlib.Core.Bool.{Bool, true, false, not, _&&_, _||_}
 use mathlib.Core.List.{List·Memᴰ}
 use lib.Dec.{T, ltb, ltb→lt, lt→ltb, not-T}
 use lib.ListN.{length}
-use lib.Ieee.{Float, nan, lt, eq, ofBits, neg, isNan}
+use lib.Ieee.{Float, lt, eq, ofBits, neg, isNan}
 use lib.Ieee.Fits.{and-l, and-r, and-i}
-use Rattle.laws.specs.Loops.{anyIn, foldIn, keep, Rising}
-use Rattle.laws.specs.Floats.{Numeric}
-use Rattle.laws.proofs.Choice.{decided, clash, or-cases, or-l, or-r, holds}
+use Rattle.laws.specs.Loops.{anyIn, keep, Rising}
+use Rattle.laws.proofs.Choice.{decided, clash, or-cases, or-l, or-r}
 use Rattle.laws.proofs.Finite.{any-of, any-ex, filter-length, in-filter, of-filter, filter-rising, filter-twice}
-use Rattle.laws.proofs.Order.{lt-left, lt-right, lt-trans, lt-eq, eq-lt, eq-trans, eq-sym, lt-asym, lt-not-eq, trichotomy}
+use Rattle.laws.proofs.Order.{lt-left, lt-trans, lt-eq, eq-lt, eq-trans, eq-sym, lt-asym, lt-not-eq, trichotomy}
 use Rattle.ieee.specs.Consts.{zeroF}
-use Rattle.showing.specs.Showing.{deepF, within, hides, canHide, hidden, shows, shown, Alike, least, governs}
+use Rattle.showing.specs.Showing.{deepF, within, hides, canHide, hidden, shows, shown, Alike}
 
 -- -0.001 is below 0
 deep-negative : T (lt deepF zeroF)
@@ -40,13 +39,6 @@ pub record Instead (gap : ℕ → Float) (decides : ℕ → Bool) (alike : ℕ �
   pub largest : (j : ℕ) → j < n → T (alike j row) → T (lt (gap j) zeroF) → T (lt (gap row) (gap j)) → ⊥
   pub first : (j : ℕ) → j < n → T (alike j row) → T (eq (gap row) (gap j)) → j < row → ⊥
 
--- Of n records b is the governing one: none has a smaller gap, none before it an equal one; a NaN in the first record stays.
-pub record First (gap : ℕ → Float) (b n : ℕ) : Type 0 where
-  pub inside : b < n
-  pub smallest : (j : ℕ) → j < n → T (lt (gap j) (gap b)) → ⊥
-  pub earliest : (j : ℕ) → j < b → T (eq (gap j) (gap b)) → ⊥
-  pub nan-stays : gap 0 ≡ nan → b ≡ 0
-
 -- Every clause for one pair of n candidates.
 pub record Demand3 (gap : ℕ → Float) (decides : ℕ → Bool) (alike : ℕ → ℕ → Bool) (n : ℕ) : Type 0 where
   -- no more rows than candidates; the rows are the candidates that show, in order, none twice
@@ -65,8 +57,6 @@ pub record Demand3 (gap : ℕ → Float) (decides : ℕ → Bool) (alike : ℕ �
   pub undecided-shown : (m : Float) (i : ℕ) → T (not (decides i)) → T (within m (gap i)) → T (shows gap decides alike n m i)
   -- of two numeric margins the smaller shows exactly those rows of the larger whose gap is not above it, in the same order
   pub margins : (m M : Float) → T (lt m M) ⊎ T (eq m M) → shown gap decides alike n m ≡ keep (λ i. not (lt m (gap i))) (shown gap decides alike n M)
-  -- the governing row, where there is one
-  pub governing : 0 < n → First gap (governs gap n) n
 
 -- ---- the rows are the candidates that show
 module _ (gap : ℕ → Float) (decides : ℕ → Bool) (alike : ℕ → ℕ → Bool) (n : ℕ) (m : Float) where
@@ -256,55 +246,6 @@ module _ (gap : ℕ → Float) (decides : ℕ → Bool) (alike : ℕ → ℕ →
             (λ a. at-keeper r a)
             (r .why)
 
--- ---- the governing row
-module _ (gap : ℕ → Float) where
-  nan-not-numeric : (x : Float) → x ≡ nan → Numeric x → ⊥
-  unfolding isNan
-  nan-not-numeric x e h = clash (isNan x) h (subst (λ (y : Float). T (isNan y)) (sym e) tt)
-
-  first-step : (a s : ℕ) → First gap a s → First gap (least gap a s) (suc s)
-  first-step a s r = go (lt (gap s) (gap a)) refl
-    where
-      go : (b : Bool) → lt (gap s) (gap a) ≡ b → First gap (cond b s a) (suc s)
-      go true e =
-          let t : T (lt (gap s) (gap a)) = holds e in
-          record {
-            inside = omega arith;
-            smallest = λ j l h. ⊎-elim
-                (λ (q : j ≡ s). lt-asym (gap j) (gap s) h (subst (λ (w : ℕ). T (lt (gap s) (gap w))) (sym q) (subst (λ (w : ℕ). T (lt (gap w) (gap s))) q h)))
-                (λ (l′ : j < s). r .smallest j l′ (lt-trans (gap j) (gap s) (gap a) h t))
-                (eq-or-lt-of-le (le-of-suc-le-suc l));
-            earliest = λ j l h. r .smallest j l (eq-lt (gap j) (gap s) (gap a) h t);
-            nan-stays = λ z. absurd (nan-not-numeric (gap a) (ap gap (r .nan-stays z) ∙ z) (lt-right (gap s) (gap a) t));
-          }
-      go false e = record {
-        inside = omega (arith, r .inside);
-        smallest = λ j l h. ⊎-elim
-            (λ (q : j ≡ s). subst T e (subst (λ (w : ℕ). T (lt (gap w) (gap a))) q h))
-            (λ (l′ : j < s). r .smallest j l′ h)
-            (eq-or-lt-of-le (le-of-suc-le-suc l));
-        earliest = λ j l h. r .earliest j l h;
-        nan-stays = λ z. r .nan-stays z;
-      }
-
-  first-fold : (k a s : ℕ) → First gap a s → First gap (foldIn (least gap) a k s) (s + k)
-  unfolding foldIn
-  first-fold zero a s r = subst (First gap a) (sym (native.Mathlib.Nat.add-zero s)) r
-  first-fold (suc k) a s r = subst (First gap (foldIn (least gap) (least gap a s) k (suc s))) (omega arith) (first-fold k (least gap a s) (suc s) (first-step a s r))
-
-  first-alone : First gap 0 1
-  first-alone = record { inside = omega arith; smallest = only-one; earliest = λ j l h. omega arith; nan-stays = λ z. refl }
-    where
-      only-one : (j : ℕ) → j < 1 → T (lt (gap j) (gap 0)) → ⊥
-      only-one j l h =
-          let z : j ≡ 0 = omega arith in
-          let h′ : T (lt (gap 0) (gap 0)) = subst (λ (w : ℕ). T (lt (gap w) (gap 0))) z h in
-          lt-asym (gap 0) (gap 0) h′ h′
-
-  pub governing-first : (n : ℕ) → 0 < n → First gap (governs gap n) n
-  unfolding governs
-  governing-first n p = subst (First gap (foldIn (least gap) 0 (n - 1) 1)) (omega arith) (first-fold (n - 1) 0 1 first-alone)
-
 -- ---- all of it
 pub demand-3 : (gap : ℕ → Float) (decides : ℕ → Bool) (alike : ℕ → ℕ → Bool) → Alike decides alike → (n : ℕ) → Demand3 gap decides alike n
 demand-3 gap decides alike law n = record {
@@ -317,5 +258,4 @@ demand-3 gap decides alike law n = record {
   shown-or-outdone = λ m i nb l w. shown-or-outdone gap decides alike law n m i nb l w;
   undecided-shown = λ m i u w. undecided-shown gap decides alike n m i u w;
   margins = λ m M h. margins gap decides alike n m M h;
-  governing = λ p. governing-first gap n p;
 }

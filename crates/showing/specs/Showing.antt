@@ -1,11 +1,11 @@
--- Which candidates of a pair are shown as rows (contact/rows.rs: the hiding of `read_pair`, the margin of `push`), and which row governs (`governing`). Candidates are given by
--- functions of their number: the gap, whether one of the two pieces decides, and whether two of them have the same deciding piece. Definitions only.
-use Prim.Native.Nat.{ℕ, _-_}
-use mathlib.Core.Bool.{Bool, not, _&&_, _||_, cond}
+-- Which candidates of a pair are shown as rows (contact/rows.rs: the hiding of `read_pair`, the margin of `push`). Candidates are given by functions of
+-- their number: the gap, whether one of the two pieces decides, and whether two of them have the same deciding piece. Definitions only.
+use Prim.Native.Nat.{ℕ}
+use mathlib.Core.Bool.{Bool, not, _&&_, _||_}
 use mathlib.Core.List.{List}
 use lib.Dec.{T, ltb}
 use lib.Ieee.{Float, lt, eq, neg, isNan}
-use Rattle.laws.specs.Loops.{anyIn, filterIn, foldIn}
+use Rattle.laws.specs.Loops.{anyIn, filterIn}
 use Rattle.ieee.specs.Consts.{zeroF, rowMargin}
 
 -- -0.001
@@ -41,12 +41,3 @@ pub record Alike (decides : ℕ → Bool) (alike : ℕ → ℕ → Bool) : Type 
   pub decided : (i j : ℕ) → T (alike i j) → T (decides i)
   pub symmetric : (i j : ℕ) → T (alike i j) → T (alike j i)
   pub transitive : (i j k : ℕ) → T (alike i j) → T (alike j k) → T (alike i k)
-
--- ---- the governing row: the first of the smallest gaps, from the first record on, moved only by a strictly smaller gap
-module _ (gap : ℕ → Float) where
-  abbrev pub least : ℕ → ℕ → ℕ
-  least a j = cond (lt (gap j) (gap a)) j a
-
-  -- of n records, n being above zero
-  unfoldable pub governs : ℕ → ℕ
-  governs n = foldIn least 0 (n - 1) 1

@@ -1,1 +1,1 @@
-// No code: which candidates of a pair are shown as rows, which row governs, and what holds of them.
+// No code: which candidates of a pair are shown as rows, and what holds of them.

@@ -9,6 +9,8 @@ use lib.Dec.{eqb, ltb}
 use lib.Ieee.{Float, lt, eq}
 use lib.ListN.{length, getD, length-map}
 use lib.Seq.{sets}
+use Rattle.mechanism.specs.Piece.{letterOf, partOf, segOf}
+use Rattle.mechanism.specs.Rows.{gapIn, placeRow, valueRow}
 use Rattle.laws.specs.Lists.{flat}
 use Rattle.laws.specs.Loops.{anyIn, filterIn}
 use Rattle.laws.proofs.Lists.{filter-same, flat-map}
@@ -18,10 +20,10 @@ use Rattle.mechanism.specs.declared.features.Piece.{Piece}
 use Rattle.mechanism.specs.declared.pose.Pose.{Pose}
 use Rattle.showing.specs.Showing.{deepF, within, hides, shows, shown}
 use Rattle.sides.specs.declared.contacts.PairFeatures.{PairFeatures}
-use Rattle.candidates.specs.Candidates.{letterOf, partOf, segOf, nearRow, namedRow, Written}
+use Rattle.candidates.specs.Candidates.{nearRow, namedRow, Written}
 use Rattle.candidates.specs.declared.Candidate.{Candidate}
 use Rattle.shown_rows.specs.declared.Source.{Source}
-use Rattle.shown_rows.specs.Rows.{noCandidate, candidateAt, gapAt, decides, deciding, alike, shownOf, gapIn, decidesIn, alikeIn, alikeRows, rowOf, gradOf, slipOf, placeRow, valueRow, placeIn, gradIn, slipIn}
+use Rattle.shown_rows.specs.Rows.{noCandidate, candidateAt, gapAt, decides, deciding, alike, shownOf, decidesIn, alikeIn, alikeRows, rowOf, gradOf, slipOf, placeIn, gradIn, slipIn}
 use Rattle.shown_rows.proofs.Store.{sets-get}
 
 -- ---- functions that agree below the end

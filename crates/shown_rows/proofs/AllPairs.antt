@@ -7,6 +7,7 @@ use mathlib.Core.List.{List, [], _∷_, _++_, map, map-append}
 use lib.Ieee.{Float}
 use lib.ListN.{length, length-map, length-append}
 use lib.Seq.{sets}
+use Rattle.mechanism.specs.Rows.{placeRow, valueRow}
 use Rattle.laws.specs.Lists.{flat, listIn}
 use Rattle.laws.specs.Loops.{Writing}
 use Rattle.laws.proofs.Lists.{list-turn, list-done}
@@ -14,7 +15,7 @@ use Rattle.laws.proofs.Sums.{sum-more}
 use Rattle.laws.proofs.Writing.{starts, appends, ends, ends-count}
 use Rattle.mechanism.specs.Description.{sumIn}
 use Rattle.mechanism.specs.declared.rows.Row.{Row}
-use Rattle.shown_rows.specs.Rows.{Put, Room, placeRow, valueRow}
+use Rattle.shown_rows.specs.Rows.{Put, Room}
 
 -- lists of c each
 pub flat-long : {A B : Type 0} (f : A → List B) (c : ℕ) → ((x : A) → length (f x) ≡ c) → (l : List A) → length (flat f l) ≡ length l * c

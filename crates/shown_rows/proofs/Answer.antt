@@ -10,6 +10,7 @@ use lib.Ieee.{Float}
 use lib.ListN.{length, length-map}
 use lib.Seq.{sets}
 use borrow.Author.Tests.{leb-true}
+use Rattle.mechanism.specs.Rows.{placeRow, valueRow}
 use Rattle.laws.proofs.Choice.{both}
 use Rattle.mechanism.specs.Check.{isAccepted, andThen, refusedIf, checkOf, callChecked}
 use Rattle.mechanism.specs.Pose.{poseFits}
@@ -22,7 +23,7 @@ use Rattle.mechanism.specs.declared.pose.Pose.{Pose}
 use Rattle.mechanism.proofs.Checks.{call-accepted, accepted-few}
 use Rattle.sides.specs.Contacts.{mechanismBound}
 use Rattle.shown_rows.specs.declared.RowsAnswer.{RowsAnswer}
-use Rattle.shown_rows.specs.Rows.{Put, Room, roomFor, rowsChecked, answerIf, ifAccepted, rowsOf, gradsOf, slipsOf, placeRow, valueRow}
+use Rattle.shown_rows.specs.Rows.{Put, Room, roomFor, rowsChecked, answerIf, ifAccepted, rowsOf, gradsOf, slipsOf}
 
 -- ---- the list of a call whose room is asked last
 still-refused : (c : Checked) (fits room : Bool) (p : Problem)

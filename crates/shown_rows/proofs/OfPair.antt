@@ -8,6 +8,7 @@ use lib.Ieee.{Float}
 use lib.ListN.{length, getD, length-map}
 use lib.Seq.{sets}
 use borrow.Author.Tests.{le-leb}
+use Rattle.mechanism.specs.Rows.{gapIn, placeRow, valueRow}
 use Rattle.laws.specs.Lists.{flat}
 use Rattle.laws.proofs.Finite.{filter-length}
 use Rattle.laws.proofs.Choice.{and-yes, cond-yes}
@@ -30,7 +31,7 @@ use Rattle.candidates.specs.Candidates.{Written, candidateRoom, pairCandidates}
 use Rattle.candidates.specs.declared.Candidate.{Candidate}
 use Rattle.candidates.proofs.Wrote.{wrote-same, wrote-near, wrote-named}
 use Rattle.shown_rows.specs.declared.Source.{Source}
-use Rattle.shown_rows.specs.Rows.{Put, gapIn, decidesIn, alikeIn, placeIn, gradIn, slipIn, placeRow, valueRow, pairRows, gradOf, slipOf, shownOf, rowOf, candidateAt, leftOf, rowsOfPair, gradsOfPair, slipsOfPair}
+use Rattle.shown_rows.specs.Rows.{Put, decidesIn, alikeIn, placeIn, gradIn, slipIn, pairRows, gradOf, slipOf, shownOf, rowOf, candidateAt, leftOf, rowsOfPair, gradsOfPair, slipsOfPair}
 use Rattle.geometry.specs.Geometry.{vectorOf}
 use Rattle.shown_rows.proofs.Agree.{places-same, values-same, grads-same, slips-same}
 use Rattle.shown_rows.proofs.Along.{along-long}

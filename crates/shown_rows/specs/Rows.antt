@@ -15,6 +15,7 @@ use Rattle.geometry.specs.Signed.{dotOf}
 use Rattle.geometry.specs.declared.Point.{Point}
 use Rattle.mechanism.specs.Check.{callChecked}
 use Rattle.mechanism.specs.Description.{pairAt}
+use Rattle.mechanism.specs.Piece.{samePiece}
 use Rattle.mechanism.specs.Pose.{columnsOf, poseFits}
 use Rattle.mechanism.specs.declared.Bodies.{Bodies}
 use Rattle.mechanism.specs.declared.Checked.{Checked}
@@ -31,7 +32,7 @@ use Rattle.mechanism.specs.declared.rows.Row.{Row}
 use Rattle.sides.specs.Contacts.{pairFeatures, mechanismBound}
 use Rattle.sides.specs.declared.contacts.PairFeatures.{PairFeatures}
 use Rattle.showing.specs.Showing.{shown}
-use Rattle.candidates.specs.Candidates.{letterOf, partOf, segOf, pairCandidates}
+use Rattle.candidates.specs.Candidates.{pairCandidates}
 use Rattle.candidates.specs.declared.Candidate.{Candidate}
 use Rattle.shown_rows.specs.declared.RowsAnswer.{RowsAnswer}
 use Rattle.shown_rows.specs.declared.Source.{Source}
@@ -53,10 +54,6 @@ decides c = not (eqb (c .who) 0)
 abbrev pub deciding : Candidate → Piece
 deciding c = cond (eqb (c .who) 1) (c .a) (c .b)
 
--- pieces agree where letter, part and segment agree
-abbrev pub samePiece : Piece → Piece → Bool
-samePiece p r = eqb (letterOf p) (letterOf r) && (eqb (partOf p) (partOf r) && eqb (segOf p) (segOf r))
-
 abbrev pub alike : Candidate → Candidate → Bool
 alike c d = (decides c && decides d) && samePiece (deciding c) (deciding d)
 
@@ -65,9 +62,6 @@ unfoldable pub shownOf : List Candidate → Float → List ℕ
 shownOf cs m = shown (gapAt cs) (λ i. decides (candidateAt cs i)) (λ i j. alike (candidateAt cs i) (candidateAt cs j)) (length cs) m
 
 -- ---- the same read from lent arrays
-abbrev pub gapIn : List (List Float) → ℕ → Float
-gapIn near i = getD (getD near i []) 0 nan
-
 abbrev pub whoIn : List ℕ → ℕ
 whoIn x = getD x 6 0
 
@@ -155,15 +149,6 @@ gradsOf m q margin = flat (gradsOfPair m q margin) (pairNumbers m)
 
 unfoldable pub slipsOf : Mechanism → Pose → Float → List Float
 slipsOf m q margin = flat (slipsOfPair m q margin) (pairNumbers m)
-
--- ---- in lent arrays: seven whole numbers a row, the pair and the letter, part and segment of both pieces; five floats, the gap, the normal and the point
-abbrev pub placeRow : Row → List ℕ
-placeRow r =
-    r .pair ∷ letterOf (r .feature .a) ∷ partOf (r .feature .a) ∷ segOf (r .feature .a)
-    ∷ letterOf (r .feature .b) ∷ partOf (r .feature .b) ∷ segOf (r .feature .b) ∷ []
-
-abbrev pub valueRow : Row → List Float
-valueRow r = r .gap ∷ r .normal .x ∷ r .normal .y ∷ r .point .x ∷ r .point .y ∷ []
 
 -- 13: fewer rows than the mechanism's bound, or fewer gradients or slips than the bound times the coordinates
 abbrev pub roomFor : Mechanism → (places values grad slip : ℕ) → Bool

@@ -10,11 +10,12 @@ ghost use Rattle.laws.specs.Loops.{anyIn};
 ghost use Rattle.ieee.specs.Consts.{zeroF};
 ghost use Rattle.mechanism.specs.Check.{checkOf, pairDrawn};
 ghost use Rattle.mechanism.specs.Pose.{Rooted};
+ghost use Rattle.mechanism.specs.Rows.{gapIn, placeRow, valueRow};
 ghost use Rattle.mechanism.specs.declared.Checked.the-variants.{Accepted, Refused};
 ghost use Rattle.sides.specs.Bounds.{rowBound};
 ghost use Rattle.sides.specs.Contacts.{pairFeatures, mechanismBound};
 ghost use Rattle.showing.specs.Showing.{hides, hidden, shows, shown, within};
-ghost use Rattle.shown_rows.specs.Rows.{gapIn, decidesIn, alikeIn, alikeRows, outdoesBy, Driven, addInto, subFrom, placeIn, gradIn, slipIn, Put, Room, rowsOf, gradsOf, slipsOf, placeRow, valueRow, rowsChecked, answerIf, ifAccepted};
+ghost use Rattle.shown_rows.specs.Rows.{decidesIn, alikeIn, alikeRows, outdoesBy, Driven, addInto, subFrom, placeIn, gradIn, slipIn, Put, Room, rowsOf, gradsOf, slipsOf, rowsChecked, answerIf, ifAccepted};
 use candidates::pair_candidates;
 use drawing::body_of_side;
 use geometry::Point;
@@ -34,15 +35,11 @@ use mechanism::pose::Column;
 use mechanism::pose::Columns;
 use mechanism::pose::Pose;
 use mechanism::pose::columns_at;
+use mechanism::rows::Place;
+use mechanism::rows::Value;
 use sides::SideFeatures;
 use sides::contacts::PairFeatures;
 use sides::contacts::pair_features_at;
-
-// The pair of a row and the letter, part and segment of both pieces.
-pub type Place = [usize; 7];
-
-// The gap, the normal and the point of a row.
-pub type Value = [f64; 5];
 
 // How many rows were written, or the first refusal that applies.
 pub struct RowsAnswer {
@@ -342,8 +339,8 @@ fn bound_of(m: Mechanism) -> usize
     let mut sum: usize = 0;
     let mut i: usize = 0;
     while i < n {
-        let p = pairs.pair[i];
-        sum += pair_bound(ps, o, p);
+        let x = pairs.pair[i];
+        sum += pair_bound(ps, o, x);
         i += 1;
     }
     sum

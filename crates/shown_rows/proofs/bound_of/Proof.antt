@@ -20,11 +20,11 @@ abbrev μ-loop : tie.MeasureT-loop
 loop-holds : tie.Need-loop-holds Inv-loop μ-loop
 loop-holds c = (omega arith, sym (sum-none _ _))
 
-mul-p : tie.Need-mul-p Inv-loop μ-loop
-mul-p c = let f = accepted-few (c .before .before .before .before .before .args .m) (c .before .before .before .before .before .pre) .pairs .count in omega arith
+mul-x : tie.Need-mul-x Inv-loop μ-loop
+mul-x c = let f = accepted-few (c .before .before .before .before .before .args .m) (c .before .before .before .before .before .pre) .pairs .count in omega arith
 
-element-copy-out-p : tie.Need-element-copy-out-p Inv-loop μ-loop
-element-copy-out-p c = let f = accepted-few (c .before .before .before .before .before .args .m) (c .before .before .before .before .before .pre) .pairs .count in omega arith
+element-copy-out-x : tie.Need-element-copy-out-x Inv-loop μ-loop
+element-copy-out-x c = let f = accepted-few (c .before .before .before .before .before .args .m) (c .before .before .before .before .before .pre) .pairs .count in omega arith
 
 pair-bound-requires : tie.Need-pair-bound-requires Inv-loop μ-loop
 pair-bound-requires c κs = accepted-pair-drawn (c .before .before .before .before .before .before .args .m) (c .before .before .before .before .before .before .pre) (c .before .before .loop .i) (c .before .loop-test .taken)
@@ -61,8 +61,8 @@ bound-of-spec =
     Inv-loop
     μ-loop
     loop-holds
-    mul-p
-    element-copy-out-p
+    mul-x
+    element-copy-out-x
     pair-bound-requires
     add-sum
     add-i

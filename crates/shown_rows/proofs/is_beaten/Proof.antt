@@ -4,10 +4,11 @@ use Prim.Native.Nat.{_-_}
 use native.Mathlib.Nat.{sub-zero}
 use mathlib.Core.Path.{_≡_, sym, ap, ap₂, _∙_}
 use mathlib.Core.Bool.{_&&_}
+use Rattle.mechanism.specs.Rows.{gapIn}
 use Rattle.laws.specs.Loops.{anyIn}
 use Rattle.laws.proofs.Loops.{any-yes, any-no, any-done}
 use Rattle.showing.specs.Showing.{hides}
-use Rattle.shown_rows.specs.Rows.{gapIn, decidesIn, alikeIn}
+use Rattle.shown_rows.specs.Rows.{decidesIn, alikeIn}
 use Rattle.shown_rows.proofs.is_beaten.Statement.{statement}
 use Rattle.shown_rows.proofs.is_beaten.Tie as tie
 

@@ -3,8 +3,9 @@ use Prim.Native.Nat.{_-_}
 use mathlib.Core.Path.{sym, _∙_}
 use lib.ListN.{getD}
 use mathlib.Core.List.{[]}
+use Rattle.mechanism.specs.Rows.{gapIn}
 use Rattle.showing.specs.Showing.{shows, shown}
-use Rattle.shown_rows.specs.Rows.{gapIn, decidesIn, alikeIn, placeIn, gradIn, slipIn}
+use Rattle.shown_rows.specs.Rows.{decidesIn, alikeIn, placeIn, gradIn, slipIn}
 use Rattle.shown_rows.proofs.Along.{along-long}
 use Rattle.shown_rows.proofs.Listing.{Listing, listing-start, listing-room, listing-more, listing-skip, listing-end}
 use Rattle.shown_rows.proofs.put_shown.Statement.{statement}

@@ -1,0 +1,4 @@
+pub mod Ends
+pub mod Best
+pub mod Answered
+pub mod Repeats

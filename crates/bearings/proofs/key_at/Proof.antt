@@ -1,0 +1,41 @@
+use native.Mathlib.Omega.{arith}
+use borrow.Author.Needs.{needs}
+use mathlib.Core.Path.{_∙_}
+use lib.ListN.{replicate}
+use Rattle.ieee.specs.Consts.{zeroF}
+use Rattle.candidates.specs.Candidates.{facesIn, discsIn}
+use Rattle.bearings.specs.Bearing.{endsOf, keyAt}
+use Rattle.bearings.proofs.Best.{best-written}
+use Rattle.bearings.proofs.key_at.Statement.{statement}
+use Rattle.bearings.proofs.key_at.Tie as tie
+
+slice-aggregate-put-ends : tie.Need-slice-aggregate-put-ends
+slice-aggregate-put-ends c = search needs
+
+put-ends-requires : tie.Need-put-ends-requires
+put-ends-requires c κs = search needs
+
+slice-aggregate-best-face : tie.Need-slice-aggregate-best-face
+slice-aggregate-best-face c = search needs
+
+best-face-requires : tie.Need-best-face-requires
+best-face-requires c κs = search needs
+
+returns : tie.Need-returns
+unfolding keyAt
+returns c =
+    let s = c .before .before .before .before .before .args in
+    let p = c .before .before .before .put-ends .ensures in
+    let e = p .0 in
+    let h = p .1 in
+    c .best-face .ensures ∙ best-written (endsOf (s .piece) (discsIn (s .a))) (replicate 56 (replicate 2 zeroF)) _ (facesIn (s .a)) (p .0) (omega arith) (p .2)
+
+pub key-at-spec : {M : Type 1} → statement M
+key-at-spec =
+    tie.close
+    (tie.spec
+    slice-aggregate-put-ends
+    put-ends-requires
+    slice-aggregate-best-face
+    best-face-requires
+    returns)

@@ -1,0 +1,33 @@
+use borrow.Author.Needs.{needs}
+use lib.ListN.{length}
+use Rattle.mechanism.specs.Rows.{pairIn, gapIn}
+use Rattle.governing.proofs.Laws.{records-few, found-some, found-none}
+use Rattle.governing.proofs.governing_in.Statement.{statement}
+use Rattle.governing.proofs.governing_in.Tie as tie
+
+least-requires : tie.Need-least-requires
+least-requires c κs = search needs
+
+least-requires-2 : tie.Need-least-requires-2
+least-requires-2 c κs = search needs
+
+walked-requires : tie.Need-walked-requires
+walked-requires c κs =
+    let s = c .before .before .args in
+    records-few (s .n) (length (s .places .now)) (length (s .values .now)) _ _ (c .before .least .ensures) (c .least2 .ensures)
+
+returns : tie.Need-returns
+returns c =
+    let s = c .before .before .before .before .args in
+    found-some (s .n) (length (s .places .now)) (length (s .values .now)) _ _ (c .before .before .before .least .ensures) (c .before .before .least2 .ensures)
+    (pairIn (s .places .now)) (gapIn (s .values .now)) (s .pair) _ (c .before .walked .ensures .1) (c .if1 .taken)
+
+returns-2 : tie.Need-returns-2
+returns-2 c =
+    let s = c .before .before .before .before .args in
+    found-none (s .n) (length (s .places .now)) (length (s .values .now)) _ _ (c .before .before .before .least .ensures) (c .before .before .least2 .ensures)
+    (pairIn (s .places .now)) (gapIn (s .values .now)) (s .pair) _ (c .before .walked .ensures .1) (c .if1 .left)
+
+pub governing-in-spec : {M : Type 1} → statement M
+governing-in-spec =
+    tie.close (tie.spec least-requires least-requires-2 walked-requires returns returns-2)

@@ -1,0 +1,69 @@
+-- The governing row of a pair (contact/rows.rs: `of_pair`, `governing`, `gap`), and one row's gradient or slip by its number (`grad`, `slip`). Records are given by functions of their
+-- number: the pair that they name, and their gap. Definitions only.
+use Prim.Native.Nat.{ℕ, _+_, _*_, _<_}
+use mathlib.Core.Path.{_≡_}
+use mathlib.Core.Bool.{Bool, _&&_, cond}
+use mathlib.Core.List.{List}
+use lib.Dec.{T, eqb, leb, ltb}
+use lib.ListN.{length, take, drop, replicate}
+use lib.Ieee.{Float, nan, lt, eq}
+use Rattle.laws.specs.Fill.{filled}
+use Rattle.laws.specs.Loops.{foldIn}
+use Rattle.ieee.specs.Consts.{zeroF}
+use Rattle.mechanism.specs.declared.Checked.the-variants.{Accepted, Refused}
+use Rattle.mechanism.specs.declared.Problem.the-variants.{NoSuchThing}
+use Rattle.governing.specs.declared.EntriesAnswer.{EntriesAnswer}
+use Rattle.governing.specs.declared.MaybeGap.{MaybeGap}
+use Rattle.governing.specs.declared.MaybeGap.the-variants.{SomeGap, NoGap}
+use Rattle.governing.specs.declared.MaybeRow.{MaybeRow}
+use Rattle.governing.specs.declared.MaybeRow.the-variants.{SomeRow, NoRow}
+
+module _ (pair : ℕ → ℕ) (gap : ℕ → Float) where
+  -- with the record j looked at too: the pair's first record, then only a strictly smaller gap
+  abbrev pub leastOf : ℕ → MaybeRow → ℕ → MaybeRow
+  leastOf p NoRow j = cond (eqb (pair j) p) (SomeRow j) NoRow
+  leastOf p (SomeRow a) j = cond (eqb (pair j) p && lt (gap j) (gap a)) (SomeRow j) (SomeRow a)
+
+  -- of n records, for the pair p
+  unfoldable pub governingOf : ℕ → ℕ → MaybeRow
+  governingOf n p = foldIn (leastOf p) NoRow n 0
+
+  abbrev pub gapOf : MaybeRow → MaybeGap
+  gapOf (SomeRow i) = SomeGap (gap i)
+  gapOf NoRow = NoGap
+
+-- ---- what demand 3 says of it, for n records and the pair p
+module _ (pair : ℕ → ℕ) (gap : ℕ → Float) (n p : ℕ) where
+  -- i is the governing record: one of the pair's; none of the pair's has a smaller gap, none of the pair's before it an equal one; a NaN in the pair's first record stays
+  pub record Governs (i : ℕ) : Type 0 where
+    pub inside : i < n
+    pub of-pair : pair i ≡ p
+    pub smallest : (j : ℕ) → j < n → pair j ≡ p → T (lt (gap j) (gap i)) → ⊥
+    pub earliest : (j : ℕ) → j < i → pair j ≡ p → T (eq (gap j) (gap i)) → ⊥
+    pub nan-stays : (j : ℕ) → j < n → pair j ≡ p → ((k : ℕ) → k < j → pair k ≡ p → ⊥) → gap j ≡ nan → i ≡ j
+
+  -- there is none exactly where no record names the pair
+  abbrev pub Governing : MaybeRow → Type 0
+  Governing (SomeRow i) = Governs i
+  Governing NoRow = (j : ℕ) → j < n → pair j ≡ p → ⊥
+
+-- ---- of lent arrays: no more records than the shorter holds
+abbrev pub lesser : ℕ → ℕ → ℕ
+lesser a b = cond (ltb a b) a b
+
+abbrev pub recordsIn : ℕ → ℕ → ℕ → ℕ
+recordsIn n places values = lesser n (lesser places values)
+
+-- a number below n is a record's
+abbrev pub numbered : ℕ → ℕ → MaybeRow
+numbered n i = cond (ltb i n) (SomeRow i) NoRow
+
+-- ---- one row's entries among those of n rows: 12 where there is no such row, or more coordinates than a description has, or too few entries
+abbrev pub rowThere : (entries coords n i : ℕ) → Bool
+rowThere entries coords n i = leb coords 16 && (ltb i n && leb (i * coords + coords) entries)
+
+unfoldable pub rowEntries : List Float → ℕ → ℕ → ℕ → EntriesAnswer
+rowEntries entries coords n i =
+    cond (rowThere (length entries) coords n i)
+    (record { checked = Accepted; count = coords; entry = filled 16 zeroF (take coords (drop (i * coords) entries)) })
+    (record { checked = Refused NoSuchThing; count = 0; entry = replicate 16 zeroF })
