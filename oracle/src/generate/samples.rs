@@ -1,6 +1,6 @@
 //! The sample sheets in `sheets/`, from decimal numbers in metres.
 
-use crate::outline::{corners, polygon};
+use crate::outline::{chain, corners, polygon, rounded};
 use crate::sheet::{honest, solid, Sheet};
 use crate::trade::{cloth, keystick, pin, punching, Key};
 
@@ -87,6 +87,36 @@ fn pin_sheet() -> Sheet {
     sheet
 }
 
+/// Two levers of 10 cm, one hung on the other, rounded at their tips. The
+/// second one's tip stands over a round knuckle on the ground, arc on arc; the
+/// first one's underside over the edge of a rail.
+fn levers() -> Sheet {
+    let mut sheet = Sheet::default();
+    let first = sheet.hinge(0, (0.0, 0.0), 0.05);
+    let second = sheet.hinge(first, (0.100, 0.0), -0.13);
+    let lever = [
+        ((-0.006, -0.004), 0.0),
+        ((0.106, -0.004), 0.003),
+        ((0.106, 0.004), 0.003),
+        ((-0.006, 0.004), 0.0),
+    ];
+    let knuckle = [
+        ((0.195, -0.050), 0.0),
+        ((0.215, -0.050), 0.0),
+        ((0.215, -0.010), 0.009),
+        ((0.195, -0.010), 0.009),
+    ];
+    for body in [first, second] {
+        sheet.part(solid(body, chain(&rounded(&lever))));
+    }
+    sheet.part(solid(0, chain(&rounded(&knuckle))));
+    sheet.part(cloth(0.050, 0.074, -0.006, -0.002, 0.0005));
+    sheet.pair(false, &[(1, 0, 4)], &[(2, 2, 6)]);
+    sheet.pair(false, &[(0, 0, 2)], &[(3, 2, 5)]);
+    sheet.margin = 0.020;
+    sheet
+}
+
 /// A triangle on a slide, one side of which is so short that its placed ends
 /// coincide: its corner reads 0/0 for that side, with honest sines.
 fn no_placed_length() -> Sheet {
@@ -151,11 +181,12 @@ pub fn findings() -> [(&'static str, Sheet); 4] {
 }
 
 /// The samples by name.
-pub fn all() -> [(&'static str, Sheet); 4] {
+pub fn all() -> [(&'static str, Sheet); 5] {
     [
         ("worked", worked()),
         ("key", key()),
         ("punching", punching_sheet()),
         ("pin", pin_sheet()),
+        ("levers", levers()),
     ]
 }

@@ -1,0 +1,50 @@
+use native.Mathlib.Omega.{arith}
+use borrow.Author.Needs.{needs}
+use Prim.Native.Nat.{_-_, _≤_}
+use Rattle.reading_calls.proofs.print_all_governed.Statement.{statement}
+use Rattle.reading_calls.proofs.print_all_governed.Tie as tie
+
+abbrev Inv-loop : tie.InvT-loop
+Inv-loop m q places values n count i₀ t9 i = i ≤ 17
+
+abbrev μ-loop : tie.MeasureT-loop
+μ-loop m q places values n count i₀ t9 i = 17 - i
+
+loop-holds : tie.Need-loop-holds Inv-loop μ-loop
+loop-holds c = omega arith
+
+print-governed-requires : tie.Need-print-governed-requires Inv-loop μ-loop
+print-governed-requires c κs = search needs
+
+add-i : tie.Need-add-i Inv-loop μ-loop
+add-i c = omega arith
+
+loop-less : tie.Need-loop-less Inv-loop μ-loop
+loop-less c = omega arith
+
+loop-again : tie.Need-loop-again Inv-loop μ-loop
+loop-again c = omega arith
+
+slice-aggregate-write-all : tie.Need-slice-aggregate-write-all Inv-loop μ-loop
+slice-aggregate-write-all c = search needs
+
+write-all-requires : tie.Need-write-all-requires Inv-loop μ-loop
+write-all-requires c κs = search needs
+
+returns : tie.Need-returns Inv-loop μ-loop
+returns c = search needs
+
+pub print-all-governed-spec : {M : Type 1} → statement M
+print-all-governed-spec =
+    tie.close
+    (tie.spec
+    Inv-loop
+    μ-loop
+    loop-holds
+    print-governed-requires
+    add-i
+    loop-less
+    loop-again
+    slice-aggregate-write-all
+    write-all-requires
+    returns)

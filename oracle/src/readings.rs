@@ -1,0 +1,235 @@
+//! Readings of the original, for the texts that the program reading_calls reads.
+//!   readings answers       the original's readings for each text on standard input, as that program prints them
+//!   readings tally         how many accepted texts on standard input have what
+mod checks;
+mod contact;
+mod decided;
+mod geometry;
+mod mechanism;
+mod registry;
+mod sheet;
+mod text;
+
+use contact::{Bearing, HowItBears, Piece, Row, Rows};
+use libm::Lent;
+use mechanism::{Joint, Mechanism, Pose};
+use std::collections::BTreeMap;
+use std::fmt::Write as _;
+use std::io::{Read, Write};
+
+pub const G: f64 = 9.80665;
+
+fn texts() -> Vec<Vec<u8>> {
+    let mut all = Vec::new();
+    std::io::stdin().read_to_end(&mut all).expect("input");
+    let (mut rest, mut texts) = (&all[..], Vec::new());
+    while rest.len() >= 7 {
+        let n: usize = std::str::from_utf8(&rest[..6]).expect("digits").parse().expect("a length");
+        texts.push(rest[7..7 + n].to_vec());
+        rest = &rest[7 + n..];
+    }
+    texts
+}
+
+struct Read1 {
+    mechanism: Mechanism,
+    pose: Pose,
+    margin: f64,
+    rows: Rows,
+}
+
+fn read(text: &[u8]) -> Result<Read1, sheet::Refusal> {
+    let sheet = text::read(text)?;
+    let mechanism = checks::mechanism(&sheet)?;
+    let mut lent = Vec::new();
+    for body in mechanism.bodies() {
+        if let Joint::Revolute { coord, .. } = body.joint {
+            let entry = sheet.entries[coord.0];
+            lent.push(Lent::Sine(entry.sine));
+            lent.push(Lent::Cosine(entry.cosine));
+        }
+    }
+    libm::lend(lent);
+    let values: Vec<f64> = sheet.entries.iter().map(|entry| entry.value).collect();
+    let pose = mechanism.pose(&values);
+    let mut rows = Rows::new();
+    mechanism.rows(&pose, sheet.margin, &mut rows);
+    Ok(Read1 { mechanism, pose, margin: sheet.margin, rows })
+}
+
+// Sixteen digits and a comma, one pattern for all NaNs.
+fn float(out: &mut String, x: f64) {
+    let bits = if x.is_nan() { 0x7ff8_0000_0000_0000 } else { x.to_bits() };
+    write!(out, "{bits:016x},").expect("a string");
+}
+
+fn floats(out: &mut String, all: &[f64]) {
+    for &x in all {
+        float(out, x);
+    }
+}
+
+fn piece(out: &mut String, piece: Piece) {
+    let (letter, part, seg) = match piece {
+        Piece::Segment { part, seg } => (0, part, seg),
+        Piece::Arc { part, seg } => (1, part, seg),
+        Piece::Vertex { part, seg } => (2, part, seg),
+        Piece::Center { part } => (3, part, 0),
+    };
+    write!(out, "{letter},{},{seg},", part.0).expect("a string");
+}
+
+fn row(out: &mut String, row: &Row) {
+    write!(out, "{},", row.pair).expect("a string");
+    piece(out, row.feature.a);
+    piece(out, row.feature.b);
+    let n = row.normal.vector();
+    let (a, b) = (row.on_a(), row.on_b());
+    floats(out, &[row.gap, n.x, n.y, row.point.x, row.point.y, a.x, a.y, b.x, b.y]);
+}
+
+fn bearing(out: &mut String, found: Option<Bearing>) {
+    let Some(b) = found else {
+        out.push_str("N,");
+        return;
+    };
+    out.push_str(match b.how {
+        HowItBears::Flat => "F,",
+        HowItBears::StopEdge => "E,",
+        HowItBears::KeyCorner => "C,",
+    });
+    floats(out, &[b.gap, b.point.x, b.point.y]);
+    match b.slope {
+        Some(x) => float(out, x),
+        None => out.push_str("N,"),
+    }
+}
+
+fn pairs(mechanism: &Mechanism) -> u16 {
+    u16::try_from(mechanism.pairs().len()).expect("at most sixteen pairs")
+}
+
+// The governing row, its gap and the bearing of each pair, and of the number behind the last.
+fn governed(out: &mut String, r: &Read1, rows: &Rows) {
+    for pair in 0..=pairs(&r.mechanism) {
+        match rows.governing(pair) {
+            Some(i) => write!(out, "{i},").expect("a string"),
+            None => out.push_str("N,"),
+        }
+        match rows.gap(pair) {
+            Some(x) => float(out, x),
+            None => out.push_str("N,"),
+        }
+        bearing(out, r.mechanism.bearing(&r.pose, rows, pair));
+    }
+    out.push('\n');
+}
+
+fn answer(text: &[u8]) -> String {
+    let r = match read(text) {
+        Ok(found) => found,
+        Err(refusal) => return format!("X,{},{}\n", refusal.number, refusal.place),
+    };
+    let mut out = format!("accepted,{},\n", r.rows.len());
+    for (i, x) in r.rows.rows().iter().enumerate() {
+        row(&mut out, x);
+        floats(&mut out, r.rows.grad(i));
+        floats(&mut out, r.rows.slip(i));
+        out.push('\n');
+    }
+    out.push_str("past,X,12,0X,12,0\n");
+    for pair in 0..pairs(&r.mechanism) {
+        float(&mut out, r.mechanism.pair_overlap(&r.pose, pair));
+        // Of `face_overlap` both zeros are alike.
+        let faces = r.mechanism.face_overlap(&r.pose, pair);
+        float(&mut out, if faces == 0.0 { 0.0 } else { faces });
+        bearing(&mut out, r.mechanism.bearing(&r.pose, &r.rows, pair));
+        out.push('\n');
+    }
+    governed(&mut out, &r, &r.rows);
+    let mut made: Vec<Row> = r.rows.rows().to_vec();
+    made.reverse();
+    governed(&mut out, &r, &Rows::of(made.clone()));
+    if let Some(first) = made.first_mut() {
+        first.gap = f64::NAN;
+    }
+    governed(&mut out, &r, &Rows::of(made));
+    out
+}
+
+fn tally() {
+    let mut counts: BTreeMap<String, usize> = BTreeMap::new();
+    let mut count = |name: &str| *counts.entry(name.to_string()).or_default() += 1;
+    for text in texts() {
+        let r = match read(&text) {
+            Ok(found) => found,
+            Err(refusal) => {
+                count("refused");
+                if refusal.number == 13 {
+                    count("refused with 13");
+                }
+                continue;
+            }
+        };
+        count("accepted");
+        count(match r.margin {
+            m if m.is_nan() => "margin NaN",
+            m if m.is_infinite() => "margin infinite",
+            m if m < 0.0 => "margin negative",
+            m if m == 0.0 => "margin zero",
+            _ => "margin positive",
+        });
+        count(match r.rows.len() {
+            0 => "no row",
+            1..=3 => "few rows",
+            _ => "many rows",
+        });
+        if r.mechanism.pairs().len() > 1 {
+            count("several pairs");
+        }
+        let mut all = Rows::new();
+        r.mechanism.rows(&r.pose, f64::NAN, &mut all);
+        if all.rows().iter().any(|x| x.gap < -0.001) {
+            count("a deep row");
+        }
+        for pair in 0..pairs(&r.mechanism) {
+            if let Some(b) = r.mechanism.bearing(&r.pose, &r.rows, pair) {
+                count(match b.how {
+                    HowItBears::Flat => "bearing flat",
+                    HowItBears::StopEdge => "bearing on a stop edge",
+                    HowItBears::KeyCorner => "bearing on a key corner",
+                });
+                if b.slope.is_none() {
+                    count("bearing without slope");
+                }
+            }
+        }
+        for x in r.rows.rows() {
+            for p in [x.feature.a, x.feature.b] {
+                count(match p {
+                    Piece::Segment { .. } => "piece segment",
+                    Piece::Arc { .. } => "piece arc",
+                    Piece::Vertex { .. } => "piece vertex",
+                    Piece::Center { .. } => "piece centre",
+                });
+            }
+        }
+    }
+    for (name, count) in counts {
+        println!("{count:6} {name}");
+    }
+}
+
+fn main() {
+    let args: Vec<String> = std::env::args().skip(1).collect();
+    match args.iter().map(String::as_str).collect::<Vec<_>>().as_slice() {
+        ["answers"] => {
+            let mut out = std::io::stdout().lock();
+            for text in texts() {
+                out.write_all(answer(&text).as_bytes()).expect("output");
+            }
+        }
+        ["tally"] => tally(),
+        _ => eprintln!("usage: readings answers, readings tally"),
+    }
+}
