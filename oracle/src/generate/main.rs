@@ -3,7 +3,8 @@
 //! `generate [--only FAMILY] FOLDER N [SEED]` writes FOLDER/000000.sheet and
 //! so on; sheet i of a seed depends on i and the seed alone. `generate
 //! --samples FOLDER` writes the samples of `sheets/`, `generate --findings
-//! FOLDER` those of `oracle/findings/`; `generate --families` names the
+//! FOLDER` those of `oracle/findings/`, `generate --chosen
+//! FOLDER` corners that random sheets do not meet; `generate --families` names the
 //! families.
 
 mod bearings;
@@ -202,6 +203,7 @@ fn run(words: &[&str]) -> io::Result<()> {
         }
         ["--samples", folder] => write_samples(folder, &samples::all()),
         ["--findings", folder] => write_samples(folder, &samples::findings()),
+        ["--chosen", folder] => write_samples(folder, &samples::chosen()),
         ["--only", family, folder, count] => {
             write(folder, number(count)?, 1, &Choice::Only(family))
         }

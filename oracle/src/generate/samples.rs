@@ -170,6 +170,76 @@ fn facing_overflows() -> Sheet {
     sheet
 }
 
+/// A corner that touches one underside with a gap of -0.0 and stands deep in
+/// the part below it: -0.0 is not negative, so the deep row stays.
+fn minus_zero_gap() -> Sheet {
+    let mut sheet = Sheet::default();
+    let body = sheet.slide(0, (0.0, 0.0), (0.0, 1.0), 0.0);
+    sheet.entries[0] = (0.0, 0.0, 1.0);
+    let apex = [(0.0, -1.0), (1.0, -1.0), (0.5, 0.0)];
+    let above = [(0.0, 0.0), (1.0, -0.0), (1.0, 1.0), (0.0, 1.0)];
+    let around = [(0.0, -0.5), (1.0, -0.5), (1.0, 0.5), (0.0, 0.5)];
+    sheet.part(solid(body, polygon(&apex)));
+    sheet.part(solid(0, polygon(&above)));
+    sheet.part(solid(0, polygon(&around)));
+    sheet.pair(false, &[(0, 1, 3)], &[(1, 0, 1), (2, 0, 1)]);
+    sheet.margin = 1.0;
+    sheet
+}
+
+/// A face that rises by exactly 2.5e-6 over a stop of length 1: still flat.
+fn flat_limit() -> Sheet {
+    let mut sheet = Sheet::default();
+    let body = sheet.slide(0, (0.0, 0.0), (0.0, 1.0), 0.0);
+    sheet.entries[0] = (0.0, 0.0, 1.0);
+    let key = [(0.0, 0.0), (2.0, 2.0 * 2.5e-6), (2.0, 1.0), (0.0, 1.0)];
+    let stop = corners(0.5, -1.0, 1.5, -0.25);
+    sheet.part(solid(body, polygon(&key)));
+    sheet.part(solid(0, polygon(&stop)));
+    sheet.pair(false, &[(0, 0, 1)], &[(1, 2, 3)]);
+    sheet.margin = 1.0;
+    sheet
+}
+
+/// The same a step above: not flat.
+fn past_the_flat_limit() -> Sheet {
+    let mut sheet = flat_limit();
+    let rise = f64::from_bits((2.0 * 2.5e-6_f64).to_bits() + 1);
+    let key = [(0.0, 0.0), (2.0, rise), (2.0, 1.0), (0.0, 1.0)];
+    sheet.parts[0].outline = polygon(&key);
+    sheet
+}
+
+/// A side with a range on another body before one that is not drawn: 9, not 8.
+fn nine_before_eight() -> Sheet {
+    let mut sheet = flat_limit();
+    sheet.pairs.clear();
+    sheet.pair(false, &[(0, 0, 1), (1, 0, 1), (0, 9, 12)], &[(1, 2, 3)]);
+    sheet
+}
+
+/// A revolved part of two segments, whose chain is one line, over a block.
+fn two_segments_revolved() -> Sheet {
+    let mut sheet = flat_limit();
+    let mut cone = solid(sheet.parts[0].body, polygon(&[(1.2, 0.0), (1.4, 1.0)]));
+    cone.sweep = crate::sheet::Sweep::Revolved { axis: 1.0 };
+    sheet.parts[0] = cone;
+    sheet.pairs.clear();
+    sheet.pair(false, &[(0, 0, 2)], &[(1, 2, 3)]);
+    sheet
+}
+
+/// Corners of document 01 that random sheets do not meet.
+pub fn chosen() -> [(&'static str, Sheet); 5] {
+    [
+        ("minus-zero-gap", minus_zero_gap()),
+        ("flat-limit", flat_limit()),
+        ("past-the-flat-limit", past_the_flat_limit()),
+        ("nine-before-eight", nine_before_eight()),
+        ("two-segments-revolved", two_segments_revolved()),
+    ]
+}
+
 /// The inputs on which the patched and the unpatched original differ.
 pub fn findings() -> [(&'static str, Sheet); 4] {
     [
