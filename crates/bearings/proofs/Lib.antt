@@ -2,3 +2,4 @@ pub mod Ends
 pub mod Best
 pub mod Answered
 pub mod Repeats
+pub mod Worked
