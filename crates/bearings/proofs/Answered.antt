@@ -5,7 +5,7 @@ use mathlib.Core.Path.{_≡_, refl, sym, ap, ap₂, subst, _∙_}
 use mathlib.Core.Bool.{Bool, true, false, cond}
 use lib.Dec.{ltb}
 use lib.Ieee.{Float}
-use borrow.Author.Tests.{lt-ltb, le-ltb, eq-eqb, ne-eqb}
+use borrow.Author.Tests.{lt-ltb, le-ltb}
 use Rattle.laws.proofs.Choice.{cond-yes, cond-no}
 use Rattle.mechanism.specs.Check.{checkOf, callChecked}
 use Rattle.mechanism.specs.Description.{pairAt}
@@ -31,12 +31,13 @@ use Rattle.governing.specs.declared.MaybeRow.the-variants.{SomeRow}
 use Rattle.governing.proofs.Laws.{records-few}
 use Rattle.governing.proofs.First.{governing-first}
 use Rattle.bearings.specs.Bearing.{cornerBearing, edgeBearing, bearingOf, governedBearing, bearingIf, bearingFrom}
+use Rattle.bearings.proofs.Rows.{chosen-none, chosen-corner, chosen-edge}
 
 -- ---- the bearing of a row: l is the letter of the piece on B, pa and pb are the placements
 module _ (f : PairFeatures) (q : Pose) (r : Row) {l : ℕ} (e : l ≡ letterOf (r .feature .b)) where
   pub centre : l ≡ 3 → NoBearing ≡ bearingOf f q r
   unfolding bearingOf
-  centre h = sym (cond-yes _ _ (eq-eqb _ 3 (sym e ∙ h)))
+  centre h = chosen-none r _ _ e h
 
   module _ {pa pb : Placement} {t : Bool} {x : MaybeBearing} (u : pa ≡ placementAt q (f .a .body)) (v : pb ≡ placementAt q (f .b .body)) (h : l ≡ 3 → ⊥)
       (g : t ≡ isDisc (r .feature .a)) where
@@ -44,13 +45,13 @@ module _ (f : PairFeatures) (q : Pose) (r : Row) {l : ℕ} (e : l ≡ letterOf (
     unfolding bearingOf
     on-disc k w =
         w ∙ ap₂ (λ (y : Placement) (z : Placement). cornerBearing (f .a) y (f .b) z r) u v
-        ∙ sym (cond-no _ _ (ne-eqb _ 3 (λ z. h (e ∙ z))) ∙ cond-yes _ _ (sym g ∙ k))
+        ∙ chosen-corner r _ _ e h g k
 
     pub on-face : t ≡ false → x ≡ edgeBearing (f .a) pa (f .b) pb r → x ≡ bearingOf f q r
     unfolding bearingOf
     on-face k w =
         w ∙ ap₂ (λ (y : Placement) (z : Placement). edgeBearing (f .a) y (f .b) z r) u v
-        ∙ sym (cond-no _ _ (ne-eqb _ 3 (λ z. h (e ∙ z))) ∙ cond-no _ _ (sym g ∙ k))
+        ∙ chosen-edge r _ _ e h g k
 
 -- ---- the governing row's number is below the lengths of both arrays
 pub row-there : (pair : ℕ → ℕ) (gap : ℕ → Float) (n a b p i : ℕ) → SomeRow i ≡ governingOf pair gap (recordsIn n a b) p → (i < a) × (i < b)

@@ -1,1 +1,2 @@
 pub mod Bearing
+pub mod Prepared

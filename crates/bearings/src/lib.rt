@@ -13,6 +13,9 @@ ghost use Rattle.candidates.specs.Candidates.{facesIn, discsIn};
 ghost use Rattle.governing.specs.Governing.{governingOf, recordsIn};
 ghost use Rattle.bearings.specs.Bearing.{samePoint, atEnd, meetsRow, spotOf, endsOf, firstOf, faceNamed, facingOf, reachOf, scoreOf, bestFace, runOf, alongside, slopeAlong, slopeOf, slopeBetween, spans, isLevel, isFlat, bearsAs, stopAt, stopUnder, towardOf, keyAt, cornerBearing, edgeOn, edgeBearing, bearingOf, governedBearing, rowAt, bearingFrom};
 ghost use Rattle.bearings.specs.declared.MaybeFace.the-variants.{SomeFace};
+
+pub mod prepared;
+
 use faces::along;
 use geometry::Dir;
 use geometry::MaybeDir;

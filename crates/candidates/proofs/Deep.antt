@@ -15,7 +15,7 @@ use Rattle.sides.specs.declared.PlacedDisc.{PlacedDisc}
 use Rattle.sides.specs.declared.PlacedFace.{PlacedFace}
 use Rattle.sides.specs.declared.SideFeatures.{SideFeatures}
 use Rattle.candidates.specs.declared.Candidate.{Candidate}
-use Rattle.candidates.specs.Candidates.{reading, keptIf, exchanged, isDeep, realOf, centerReal, foundDeep, discDeep, anyDeep, centerDeep, readAB, readBA, readDiscs, readCenter, each, facesIn, discsIn, placedCandidates}
+use Rattle.candidates.specs.Candidates.{reading, keptIf, exchanged, isDeep, realOf, centerReal, foundDeep, discDeep, anyDeep, centerDeep, readAB, readBA, readDiscs, readCenter, each, facesIn, discsIn, candidatesIn, placedCandidates}
 
 -- two readings that agree wherever none passes
 flat-same : {A : Type 0} (p : A → Bool) (f g : A → List Candidate) → ((x : A) → p x ≡ false → f x ≡ g x) → (l : List A) → any p l ≡ false → flat f l ≡ flat g l
@@ -73,7 +73,9 @@ module _ (m m′ : Material) where
   pub flat-center-same : (piece : Piece) (c : Point) (faces : List PlacedFace) → centerDeep faces c ≡ false → flat (readCenter m piece c) faces ≡ flat (readCenter m′ piece c) faces
   flat-center-same piece c faces = flat-same (λ f. foundDeep (centerOnFace c (f .face))) (readCenter m piece c) (readCenter m′ piece c) (center-same piece c) faces
 
--- the candidates of two placed sides, where nothing is deep either way
+-- the candidates of two sides in the world, where nothing is deep either way
+pub candidates-same : (ma ma′ mb mb′ : Material) (fa : List PlacedFace) (da : List PlacedDisc) (fb : List PlacedFace) (db : List PlacedDisc) → anyDeep da fb ≡ false → anyDeep db fa ≡ false → candidatesIn ma mb fa da fb db ≡ candidatesIn ma′ mb′ fa da fb db
+candidates-same ma ma′ mb mb′ fa da fb db p q = ap₂ (λ (x y : List Candidate). x ++ (y ++ each readDiscs da db)) (each-ab-same mb mb′ da fb p) (each-ba-same ma ma′ db fa q)
+
 pub placed-same : (ma ma′ mb mb′ : Material) (a b : SideFeatures) → anyDeep (discsIn a) (facesIn b) ≡ false → anyDeep (discsIn b) (facesIn a) ≡ false → placedCandidates ma mb a b ≡ placedCandidates ma′ mb′ a b
-placed-same ma ma′ mb mb′ a b p q =
-    ap₂ (λ (x y : List Candidate). x ++ (y ++ each readDiscs (discsIn a) (discsIn b))) (each-ab-same mb mb′ (discsIn a) (facesIn b) p) (each-ba-same ma ma′ (discsIn b) (facesIn a) q)
+placed-same ma ma′ mb mb′ a b p q = candidates-same ma ma′ mb mb′ (facesIn a) (discsIn a) (facesIn b) (discsIn b) p q

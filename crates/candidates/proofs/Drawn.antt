@@ -1,16 +1,16 @@
 -- The material of a side, as `draw` leaves it in arrays that have room for every description's parts. Assumes nothing.
 use Prim.Native.Nat.{ℕ, _+_, _≤_}
 use native.Mathlib.Omega.{arith}
-use mathlib.Core.Path.{_≡_, sym, ap, ap₂, _∙_}
+use mathlib.Core.Path.{_≡_, ap, _∙_}
 use mathlib.Core.Bool.{Bool, true, not, _&&_, cond}
 use mathlib.Core.List.{List, _++_}
 use lib.Dec.{leb}
 use lib.Ieee.{Float}
-use lib.ListN.{length, take, replicate, length-replicate, length-append}
-use lib.Seq.{sets, length-sets, length-take-le}
+use lib.ListN.{length, take, replicate, length-replicate, length-append, length-map}
+use lib.Seq.{sets}
 use borrow.Author.Tests.{le-leb}
 use Rattle.laws.specs.Lists.{flat}
-use Rattle.laws.proofs.Choice.{and-yes, cond-yes}
+use Rattle.laws.proofs.Choice.{and-yes}
 use Rattle.ieee.specs.Consts.{zeroF}
 use Rattle.mechanism.specs.Check.{FewParts}
 use Rattle.mechanism.specs.declared.Outlines.{Outlines}
@@ -19,10 +19,12 @@ use Rattle.mechanism.specs.declared.pair.Surface.{Surface}
 use Rattle.mechanism.specs.declared.pose.Pose.{Pose}
 use Rattle.mechanism.proofs.Checks.{parts-few}
 use Rattle.material.specs.Material.{Material, materialOf}
-use Rattle.drawing.specs.Drawing.{sideMaterial, solidsOf, cutsOf, chosenMaterial, sideChosen, same, rowsOf, startsOf, roomFor, countsOf}
+use Rattle.drawing.specs.Drawing.{sideMaterial, solidsOf, cutsOf, chosenMaterial, sideChosen, rowOf, same, rowsOf, startsOf, roomFor, countsOf}
 use Rattle.drawing.specs.declared.Chosen.{Chosen}
 use Rattle.drawing.specs.declared.Polygons.{Polygons}
-use Rattle.drawing.proofs.Laid.{side-chosen, points-few, drawn-material}
+use Rattle.drawing.proofs.Laid.{side-chosen, points-few}
+use Rattle.candidates.proofs.Lent.{Fitting}
+use Rattle.candidates.proofs.Lent as L
 
 -- the arrays as they are made, with nothing drawn
 abbrev pub noPoints : List (List Float)
@@ -49,55 +51,40 @@ has-room ps n m few p q =
 module _ (ps : Parts) (o : Outlines) (q : Pose) (c : Chosen) (few : FewParts ps) (l l′ : List (List Float)) (s s′ : List ℕ) (r : Polygons)
     (e : (r ≡ countsOf (roomFor ps (length l) (length s)) (solidsOf ps o q c) (cutsOf ps o q c)) × (l′ ≡ cond (roomFor ps (length l) (length s)) (sets l 0 (rowsOf (solidsOf ps o q c ++ cutsOf ps o q c))) l) × (s′ ≡ cond (roomFor ps (length l) (length s)) (sets s 0 (startsOf (solidsOf ps o q c ++ cutsOf ps o q c))) s))
     (hl : 6144 ≤ length l) (hs : 33 ≤ length s) where
-  room : roomFor ps (length l) (length s) ≡ true
-  room = has-room ps (length l) (length s) few hl hs
+  -- the arrays have room
+  fit : Fitting (solidsOf ps o q c) (cutsOf ps o q c) (roomFor ps (length l) (length s)) l s
+  fit =
+      let f = points-few ps o q c few in
+      let a = f .0 in
+      let b = f .1 in
+      let m = length-map (flat same (solidsOf ps o q c ++ cutsOf ps o q c)) rowOf in
+      let n = length-append (solidsOf ps o q c) (cutsOf ps o q c) in
+      record { room = has-room ps (length l) (length s) few hl hs; rows = omega (arith, a, m, hl); few = omega (arith, b, n); starts = hs }
 
-  counts : r ≡ record { solids = length (solidsOf ps o q c); all = length (solidsOf ps o q c) + length (cutsOf ps o q c); points = length (flat same (solidsOf ps o q c ++ cutsOf ps o q c)) }
-  counts = e .0 ∙ ap (λ (b : Bool). countsOf b (solidsOf ps o q c) (cutsOf ps o q c)) room
-
-  points-are : l′ ≡ sets l 0 (rowsOf (solidsOf ps o q c ++ cutsOf ps o q c))
-  points-are = e .1 ∙ cond-yes _ _ room
-
-  starts-are : s′ ≡ sets s 0 (startsOf (solidsOf ps o q c ++ cutsOf ps o q c))
-  starts-are = e .2 ∙ cond-yes _ _ room
-
-  -- the arrays are as long as before
+  -- and are as long as before
   pub still-long : (6144 ≤ length l′) × (33 ≤ length s′)
   still-long =
-      let a : length l′ ≡ length l = ap length points-are ∙ length-sets l 0 (rowsOf (solidsOf ps o q c ++ cutsOf ps o q c)) in
-      let b : length s′ ≡ length s = ap length starts-are ∙ length-sets s 0 (startsOf (solidsOf ps o q c ++ cutsOf ps o q c)) in
+      let a = L.same-points fit e in
+      let b = L.same-starts fit e in
       (omega (arith, a, hl), omega (arith, b, hs))
 
   -- the parts that are used
   pub all-few : r .all ≤ 32
-  all-few =
-      let f = points-few ps o q c few .1 in
-      let a = ap (λ (p : Polygons). p .all) counts in
-      let n = length-append (solidsOf ps o q c) (cutsOf ps o q c) in
-      omega (arith, f, a, n)
+  all-few = L.all-few fit e
 
   pub points-fit : r .points ≤ length l′
-  points-fit =
-      let f = points-few ps o q c few .0 in
-      let a = ap (λ (p : Polygons). p .points) counts in
-      let h = still-long .0 in
-      omega (arith, f, a, h)
+  points-fit = L.points-in fit e
 
   pub starts-fit : r .all + 1 ≤ length s′
-  starts-fit = let a = all-few in let h = still-long .1 in omega (arith, a, h)
+  starts-fit = L.starts-in fit e
 
   pub points-lent : r .points ≡ length (take (r .points) l′)
-  points-lent = sym (length-take-le (r .points) l′ points-fit)
+  points-lent = L.points-lent fit e
 
   pub starts-lent : r .all + 1 ≡ length (take (r .all + 1) s′)
-  starts-lent = sym (length-take-le (r .all + 1) s′ starts-fit)
+  starts-lent = L.starts-lent fit e
 
   -- they are the side's material
   pub drawn-side : (u : Surface) (cuts : Bool) → c ≡ sideChosen ps u cuts → lent l′ s′ r ≡ sideMaterial ps o q u cuts
-  drawn-side u cuts h =
-      let k = length (solidsOf ps o q c) in
-      let m = length (solidsOf ps o q c) + length (cutsOf ps o q c) in
-      let n = length (flat same (solidsOf ps o q c ++ cutsOf ps o q c)) in
-      ap (lent l′ s′) counts
-      ∙ ap₂ (λ (x : List (List Float)) (y : List ℕ). materialOf (take n x) (take (m + 1) y) k m) points-are starts-are
-      ∙ drawn-material ps o q c l s room ∙ ap (chosenMaterial ps o q) h ∙ side-chosen ps o q u cuts (few .count)
+  unfolding chosenMaterial
+  drawn-side u cuts h = L.lent-material fit e ∙ ap (chosenMaterial ps o q) h ∙ side-chosen ps o q u cuts (few .count)

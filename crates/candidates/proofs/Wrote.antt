@@ -147,7 +147,7 @@ module _ {a b : SideFeatures} (few : FewPlaced a b) (near₀ : List (List Float)
         (few .discs-a, few .discs-b, omega (arith, f, p, u, e, s, x, x′), omega (arith, f, q, u, e, s, y, y′))
 
 -- i of n turns of b each, and one more
-one-more : (i n b : ℕ) → i < n → i * b + b ≤ n * b
+pub one-more : (i n b : ℕ) → i < n → i * b + b ≤ n * b
 one-more i n b h =
     let m : (i + 1) * b ≤ n * b = mul-le-mul (omega arith) (let z : b ≤ b = omega arith in z) in
     let e = add-mul i 1 b in

@@ -10,6 +10,9 @@ ghost use Rattle.mechanism.specs.Check.{FewParts, pairDrawn};
 ghost use Rattle.material.specs.Material.{materialOf};
 ghost use Rattle.drawing.specs.Drawing.{sideMaterial};
 ghost use Rattle.candidates.specs.Candidates.{turnedOf, worldFace, worldDisc, placeFace, placeDisc, facesIn, discsIn, facesAt, discsAt, isDeep, realOf, centerReal, keptIf, exchanged, reading, readAB, readBA, readDiscs, readCenter, each, foundDeep, discDeep, anyDeep, centerDeep, noMaterial, placedCandidates, FewPlaced, pairCandidates, Written, candidateRoom};
+
+pub mod prepared;
+
 use drawing::Polygons;
 use drawing::draw;
 use drawing::side_chosen;

@@ -48,7 +48,7 @@ polygons-short ps o q p k j =
     omega (arith, e, f, s)
 
 -- a part is no solid and cut at once
-one-of : (x a : ℕ) → cond (eqb x 1) a 0 + cond (eqb x 2) a 0 ≤ a
+pub one-of : (x a : ℕ) → cond (eqb x 1) a 0 + cond (eqb x 2) a 0 ≤ a
 one-of x a = go (eqb x 1) (eqb x 2) refl refl
   where
     go : (b d : Bool) → eqb x 1 ≡ b → eqb x 2 ≡ d → cond b a 0 + cond d a 0 ≤ a

@@ -4,3 +4,4 @@ pub mod Draws
 pub mod Mouths
 pub mod Sides
 pub mod Laid
+pub mod Lays

@@ -1,2 +1,3 @@
 pub mod Drawing
 pub mod Samples
+pub mod Prepared

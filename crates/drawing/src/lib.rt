@@ -12,6 +12,7 @@ ghost use Rattle.mechanism.specs.Pose.{worldOf};
 ghost use Rattle.silhouette.specs.Silhouette.{segsIn};
 ghost use Rattle.drawing.specs.Drawing.{isCut, isSampled, isReadCut, drawnPoints, polygonOf, polygonsOf, bodyOfSide, isOwn, hasOwn, whatIs, sideChosen, chosenAs, solidsOf, cutsOf, chosenSegs, chosenCount, rowOf, rowsOf, endsFrom, startsOf, cursorAfter, roomFor, countsOf};
 
+pub mod prepared;
 pub mod samples;
 
 use geometry::Drawn;

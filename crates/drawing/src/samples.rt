@@ -95,7 +95,7 @@ fn same_ends(a: Point, b: Point, c: Point, d: Point) -> bool
 }
 
 // Whether the segment from a to b is a mouth.
-fn is_mouth(mouths: &[Mouth], a: Point, b: Point) -> bool
+pub fn is_mouth(mouths: &[Mouth], a: Point, b: Point) -> bool
     ensures { λ r. ⌜ r ≡ isMouth (mouthsIn (now (mouths .entry))) (record { a = a; b = b }) ⌝ }
 {
     let n = mouths.len();
@@ -113,7 +113,7 @@ fn is_mouth(mouths: &[Mouth], a: Point, b: Point) -> bool
 // ---- samples
 
 // The point k sixteenths along the line from a to b.
-fn on_line(a: Point, b: Point, k: u32) -> Point
+pub fn on_line(a: Point, b: Point, k: u32) -> Point
     ensures { λ r. ⌜ r ≡ onLine a b k ⌝ }
 {
     let t = k as f64 / 16.0;

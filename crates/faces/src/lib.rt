@@ -7,6 +7,9 @@ ghost use lib.Ieee.{isNan};
 ghost use Rattle.laws.specs.Lists.{foldl};
 ghost use Rattle.mechanism.specs.Description.{pairAt};
 ghost use Rattle.faces.specs.Faces.{alongOf, reachOf, withinOf, overOf, pastOf, isLong, facesIn, facesOverlap, sidesOverlap, faceOverlapAnswer};
+
+pub mod prepared;
+
 use geometry::Dir;
 use geometry::Point;
 use geometry::signed::Face;

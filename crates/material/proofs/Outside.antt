@@ -1,6 +1,6 @@
 -- A point whose ordinate lies outside the range of all points is inside no polygon, so its depth is zero: no edge's two ends lie on different sides of its ray. No rounding is met.
 -- Assumes nothing.
-use mathlib.Core.Path.{_≡_, refl, ap, _∙_, subst}
+use mathlib.Core.Path.{_≡_, refl, sym, ap, _∙_, subst}
 use mathlib.Core.Bool.{Bool, true, false, cond, _||_}
 use mathlib.Core.Logic.{inl, inr}
 use mathlib.Core.List.{List, []}
@@ -18,7 +18,7 @@ use Rattle.laws.proofs.Order.{lt-trans, lt-eq, eq-lt}
 use Rattle.ieee.specs.Consts.{zeroF}
 use Rattle.ieee.proofs.MinRoot.{lt-le, le-cases, le-not-lt}
 use Rattle.geometry.specs.declared.Point.{Point}
-use Rattle.material.specs.Material.{Edge, nowhere, edgeAt, crossOf, turnedBy, insideOf, polyAt, pointOf, pointsOf, between, materialOf, depthOf}
+use Rattle.material.specs.Material.{Edge, nowhere, edgeAt, crossOf, turnedBy, insideOf, polyAt, pointOf, pointsOf, between, materialOf, holdsOf, squareDepth, depthOf}
 use Rattle.material.specs.Range.{Covers, lowOf, highOf, ordinate, outsideOf}
 
 -- ---- the order, with `le` on one side
@@ -114,14 +114,27 @@ module _ (p : Point) (l : List (List Float)) (b : Bool) (side : (i : ℕ) → i 
       ap (λ (t : Bool). t || any (insideOf p) (listIn (polyAt l starts) k (suc j))) (not-inside (getD starts j 0) (getD starts (j + 1) 0))
       ∙ none-inside starts k (suc j)
 
-  zero-depth : (starts : List ℕ) (solids all : ℕ) → depthOf (materialOf l starts solids all) p ≡ zeroF
-  unfolding depthOf
-  zero-depth starts solids all = cond-no _ _ (and-no _ (none-inside starts solids 0))
+  not-held : (starts : List ℕ) (solids all : ℕ) → holdsOf (materialOf l starts solids all) p ≡ false
+  not-held starts solids all = and-no _ (none-inside starts solids 0)
 
--- THE LAW: outside the range of all points the depth is zero
-pub outside-depth : (l : List (List Float)) (starts : List ℕ) (solids all : ℕ) (lo hi : Float) (p : Point) → Covers l (length l) lo hi
-    → outsideOf lo hi (p .y) ≡ true → depthOf (materialOf l starts solids all) p ≡ zeroF
-outside-depth l starts solids all lo hi p c h = elim (or-cases (lt (p .y) lo) (le hi (p .y)) (holds h)) [
-  | inl t ↦ zero-depth p l true (c .under (p .y) t) starts solids all
-  | inr t ↦ zero-depth p l false (c .over (p .y) t) starts solids all
-]
+module _ (l : List (List Float)) (starts : List ℕ) (solids all : ℕ) (lo hi : Float) (p : Point) (c : Covers l (length l) lo hi) where
+  -- outside the range of all points nothing holds p
+  outside-held : outsideOf lo hi (p .y) ≡ true → holdsOf (materialOf l starts solids all) p ≡ false
+  outside-held h = elim (or-cases (lt (p .y) lo) (le hi (p .y)) (holds h)) [
+    | inl t ↦ not-held p l true (c .under (p .y) t) starts solids all
+    | inr t ↦ not-held p l false (c .over (p .y) t) starts solids all
+  ]
+
+  -- THE LAW: outside the range of all points the depth is zero
+  pub outside-depth : outsideOf lo hi (p .y) ≡ true → depthOf (materialOf l starts solids all) p ≡ zeroF
+  unfolding depthOf
+  outside-depth h = cond-no _ _ (outside-held h)
+
+  -- and so is its square
+  pub within-square : cond (outsideOf lo hi (p .y)) zeroF (squareDepth (materialOf l starts solids all) p) ≡ squareDepth (materialOf l starts solids all) p
+  unfolding squareDepth
+  within-square = go (outsideOf lo hi (p .y)) refl
+    where
+      go : (b : Bool) → outsideOf lo hi (p .y) ≡ b → cond b zeroF (squareDepth (materialOf l starts solids all) p) ≡ squareDepth (materialOf l starts solids all) p
+      go true h = sym (cond-no _ _ (outside-held h))
+      go false h = refl

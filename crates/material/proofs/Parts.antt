@@ -1,20 +1,18 @@
 -- Laws on parts of lists and on edges, as the code meets them. Assumes nothing.
 use mathlib.Core.Path.{_≡_, sym, ap, _∙_}
-use mathlib.Core.List.{List, [], _++_, map}
+use mathlib.Core.List.{List, [], map}
 use Prim.Native.Nat.{ℕ, _+_, _-_, _%_, _≤_, _<_}
 use native.Mathlib.Nat.{mod-eq-of-lt, mod-self}
 use native.Mathlib.Omega.{arith}
 use lib.ListN.{length, getD, take, drop, length-map, length-drop, drop-of-length-le, List·getD-map, List·getD-eq-default}
 use lib.Seq.{take-all, take-nil}
 use lib.Ieee.{Float}
-use Rattle.laws.specs.Lists.{listIn, foldl, flat}
-use Rattle.laws.proofs.Lists.{list-same, list-map, foldl-map, foldl-flat, foldl-append}
-use Rattle.ieee.specs.Consts.{infinityF}
+use Rattle.laws.specs.Lists.{listIn, foldl}
+use Rattle.laws.proofs.Lists.{list-same, list-map}
 use Rattle.ieee.specs.Num.{minOf}
-use Rattle.ieee.specs.Root.{rootOf}
-use Rattle.ieee.proofs.MinRoot.{Plain, squares-plain, least-root}
+use Rattle.ieee.proofs.MinRoot.{Plain, squares-plain}
 use Rattle.geometry.specs.declared.Point.{Point}
-use Rattle.material.specs.Material.{Edge, Material, nowhere, edgeAt, edgesOf, squareOf, distanceOf, pointOf, pointsOf}
+use Rattle.material.specs.Material.{Edge, nowhere, edgeAt, edgesOf, squareOf, pointOf, pointsOf}
 
 pub getD-past : {A : Type 0} (l : List A) (k : ℕ) (d : A) → length l ≤ k → getD l k d ≡ d
 getD-past l k d h = List·getD-eq-default l d h
@@ -59,19 +57,10 @@ edges-of-rows l =
     same : (i : ℕ) → edgeAt (λ i. getD (map pointOf l) i nowhere) (length l) i ≡ rowEdge l i
     same i = rw (List·getD-map pointOf l i [], List·getD-map pointOf l ((i + 1) % length l) [])
 
--- ---- the depth: the least of the roots is the root of the least square
+-- ---- the square of a distance
 pub square-plain : (p : Point) (e : Edge) → Plain (squareOf p e)
 unfolding squareOf
 square-plain p e = squares-plain _ _
 
 abbrev pub leastIn : Point → Float → List Edge → Float
 leastIn p x l = foldl (λ x e. minOf x (squareOf p e)) x l
-
-pub depth-is : (m : Material) (p : Point)
-    → foldl minOf infinityF (map (distanceOf p) (flat edgesOf (m .solids ++ m .cuts)))
-    ≡ rootOf (foldl (λ x l. leastIn p x (edgesOf l)) (foldl (λ x l. leastIn p x (edgesOf l)) infinityF (m .solids)) (m .cuts))
-depth-is m p =
-    foldl-map minOf (distanceOf p) infinityF (flat edgesOf (m .solids ++ m .cuts))
-    ∙ least-root (squareOf p) (square-plain p) (flat edgesOf (m .solids ++ m .cuts))
-    ∙ ap rootOf (foldl-flat (λ x e. minOf x (squareOf p e)) edgesOf infinityF (m .solids ++ m .cuts)
-    ∙ foldl-append (λ x l. leastIn p x (edgesOf l)) infinityF (m .solids) (m .cuts))

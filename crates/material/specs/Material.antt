@@ -65,6 +65,10 @@ squareOf p e =
 abbrev pub distanceOf : Point → Edge → Float
 distanceOf p e = rootOf (squareOf p e)
 
+-- zero outside; inside the least of the squares of the distances to all edges
+unfoldable pub squareDepth : Material → Point → Float
+squareDepth m p = cond (holdsOf m p) (foldl minOf infinityF (map (squareOf p) (flat edgesOf (m .solids ++ m .cuts)))) zeroF
+
 -- zero outside; inside the least of the distances to all edges, the parts' then the cuts'
 unfoldable pub depthOf : Material → Point → Float
 depthOf m p = cond (holdsOf m p) (foldl minOf infinityF (map (distanceOf p) (flat edgesOf (m .solids ++ m .cuts)))) zeroF
@@ -72,6 +76,10 @@ depthOf m p = cond (holdsOf m p) (foldl minOf infinityF (map (distanceOf p) (fla
 -- the deepest of d and the depths of points
 abbrev pub deepestOf : Material → Float → List Point → Float
 deepestOf m d l = foldl (λ x p. maxOf x (depthOf m p)) d l
+
+-- the largest of the square d and the squares of the depths of points
+abbrev pub deepestSquare : Material → Float → List Point → Float
+deepestSquare m d l = foldl (λ x p. maxOf x (squareDepth m p)) d l
 
 -- ---- as the code holds them: points are rows of two numbers, and polygon k runs from starts k to starts (k + 1)
 abbrev pub pointOf : List Float → Point

@@ -1,12 +1,13 @@
 // Drawn material as polygons in lent arrays: inside, depth, and the deepest of many points (contact/rows.rs: `Material`, `inside`).
 ghost use mathlib.Core.Path.{_≡_};
-ghost use mathlib.Core.Bool.{false};
+ghost use mathlib.Core.Bool.{false, cond};
 ghost use Prim.Native.Nat.{_-_, _%_, _<_, _≤_};
 ghost use lib.ListN.{length, getD};
 ghost use lib.Ieee.{isNan};
 ghost use Rattle.laws.specs.Lists.{listIn, foldl, any};
+ghost use Rattle.ieee.specs.Consts.{zeroF};
 ghost use Rattle.ieee.specs.Num.{minOf};
-ghost use Rattle.material.specs.Material.{crossOf, insideOf, holdsOf, squareOf, depthOf, deepestOf, pointsOf, between, polyAt, materialOf, edgesOf};
+ghost use Rattle.material.specs.Material.{crossOf, insideOf, holdsOf, squareOf, squareDepth, depthOf, deepestOf, pointsOf, between, polyAt, materialOf, edgesOf};
 ghost use Rattle.material.specs.Range.{lowOf, highOf, Covers, outsideOf};
 use geometry::Point;
 use ieee::num::choose;
@@ -178,23 +179,29 @@ fn least(points: &[Spot], starts: &[usize], first: usize, to: usize, p: Point, f
     best
 }
 
-// How deep p stands inside the material: its distance to the nearest edge of a part or a cut; zero outside. One root is taken, of the least square.
-pub fn depth(points: &[Spot], starts: &[usize], solids: usize, all: usize, p: Point) -> f64
-    ensures { λ r. ⌜ r ≡ depthOf (materialOf (now (points .entry)) (now (starts .entry)) solids all) p ⌝ }
+// The least square of p's distances from the edges of the parts and the cuts, where the material holds p; zero outside.
+fn square_depth(points: &[Spot], starts: &[usize], solids: usize, all: usize, p: Point) -> f64
+    ensures { λ r. ⌜ r ≡ squareDepth (materialOf (now (points .entry)) (now (starts .entry)) solids all) p ⌝ }
 {
     if holds(points, starts, solids, all, p) {
         let s = least(points, starts, 0, solids, p, infinity());
-        let c = least(points, starts, solids, all, p, s);
-        root(c)
+        least(points, starts, solids, all, p, s)
     } else {
         0.0
     }
 }
 
+// How deep p stands inside the material: its distance to the nearest edge of a part or a cut; zero outside. One root is taken, of the least square.
+pub fn depth(points: &[Spot], starts: &[usize], solids: usize, all: usize, p: Point) -> f64
+    ensures { λ r. ⌜ r ≡ depthOf (materialOf (now (points .entry)) (now (starts .entry)) solids all) p ⌝ }
+{
+    root(square_depth(points, starts, solids, all, p))
+}
+
 // A range of ordinates.
-struct Range {
-    lo: f64,
-    hi: f64,
+pub struct Range {
+    pub lo: f64,
+    pub hi: f64,
 }
 
 fn low(lo: f64, y: f64) -> f64
@@ -210,7 +217,7 @@ fn high(hi: f64, y: f64) -> f64
 }
 
 // The range of the points' ordinates.
-fn y_range(points: &[Spot]) -> Range
+pub fn y_range(points: &[Spot]) -> Range
     ensures { λ r. ⌜ Covers (now (points .entry)) (length (now (points .entry))) (r .lo) (r .hi) ⌝ }
 {
     let n = points.len();
@@ -230,6 +237,24 @@ fn is_outside(lo: f64, hi: f64, y: f64) -> bool
     ensures { λ r. ⌜ r ≡ outsideOf lo hi y ⌝ }
 {
     (y < lo) | (hi <= y)
+}
+
+// The square of a depth, with the points outside a range settled at once.
+pub fn square_within(
+    points: &[Spot],
+    starts: &[usize],
+    solids: usize,
+    all: usize,
+    range: Range,
+    p: Point,
+) -> f64
+    ensures { λ r. ⌜ r ≡ cond (outsideOf (range .lo) (range .hi) (p .y)) zeroF (squareDepth (materialOf (now (points .entry)) (now (starts .entry)) solids all) p) ⌝ }
+{
+    if is_outside(range.lo, range.hi, p.y) {
+        0.0
+    } else {
+        square_depth(points, starts, solids, all, p)
+    }
 }
 
 // The same as `depth`, with the points outside a range that covers all polygons settled at once.

@@ -10,10 +10,11 @@ use Rattle.laws.proofs.Finite.{any-none, any-all, first-none}
 use Rattle.laws.proofs.Sums.{sum-more, sum-mono}
 use Rattle.mechanism.proofs.Worked as worked
 use Rattle.mechanism.specs.Description.{bodyAt, partAt, pairAt, segsOf, startOfPart, sideLength}
-use Rattle.mechanism.specs.Check.{isAccepted, andThen, refusedIf, sideOver, pairOver, partsOver, pairsOver, limitPassed, coordBelow, misplaced, bodiesChecked, directionMissing, partsChecked, partDraws, withDrawn, withRange, sideBody, sidesChecked, pairsChecked, checkOf, callChecked, FewParts, FewPairs, Few}
+use Rattle.mechanism.specs.Check.{isAccepted, andThen, refusedIf, sideOver, pairOver, partsOver, pairsOver, limitPassed, coordBelow, misplaced, bodiesChecked, directionMissing, partsChecked, partDraws, withDrawn, withRange, sideBody, sidesChecked, pairsChecked, checkOf, callChecked, bodiesStand, FewParts, FewPairs, Few}
 use Rattle.mechanism.specs.Pose.{Rooted}
 use Rattle.mechanism.specs.declared.Parts.{Parts}
 use Rattle.mechanism.specs.declared.Pairs.{Pairs}
+use Rattle.mechanism.specs.declared.Bodies.{Bodies}
 use Rattle.mechanism.specs.declared.Mechanism.{Mechanism}
 use Rattle.mechanism.specs.declared.pair.Surface.{Surface}
 use Rattle.mechanism.specs.declared.part.SurfaceRef.{SurfaceRef}
@@ -195,6 +196,10 @@ passed-if : (b : Bool) (p : Problem) → refusedIf (not b) p ≡ Accepted → b 
 passed-if true p e = refl
 passed-if false p e = absurd (refused-not p e)
 
+no-refusal : (b : Bool) (p : Problem) → refusedIf b p ≡ Accepted → b ≡ false
+no-refusal true p e = absurd (refused-not p e)
+no-refusal false p e = refl
+
 -- a call that is not refused: its description is accepted, and all that it asks for is there
 pub call-accepted : (m : Mechanism) (fits known room : Bool) → callChecked m fits known room ≡ Accepted → (checkOf m ≡ Accepted) × (fits ≡ true) × (known ≡ true) × (room ≡ true)
 call-accepted m fits known room e =
@@ -202,6 +207,33 @@ call-accepted m fits known room e =
     let b = passed (refusedIf (not fits) PoseNotMatching) (fromNames m fits known room) (a .1) in
     let c = passed (refusedIf (not known) NoSuchThing) (fromRoom m fits known room) (b .1) in
     (a .0, passed-if fits PoseNotMatching (b .0), passed-if known NoSuchThing (c .0), passed-if room TooFewRows (c .1))
+
+-- bodies that 4 does not refuse hang below themselves, on coordinates that are there
+module _ (b : Bodies) (few : b .count ≤ 15) (e : isAccepted (bodiesChecked b) ≡ true) where
+  body-pass : (i : ℕ) → i < b .count → misplaced (b .coords) (bodyAt b i) i ≡ false
+  unfolding bodiesChecked
+  body-pass i h = not-misplaced (misplaced (b .coords) (bodyAt b i) i) (first-none isAccepted Accepted _ (b .count) 0 e i (omega arith) (omega arith))
+    where
+      not-misplaced : (t : Bool) → isAccepted (refusedIf t (BodyNotPlaced (i + 1))) ≡ true → t ≡ false
+      not-misplaced true g = absurd (false≢true g)
+      not-misplaced false g = refl
+
+  bodies-rooted : Rooted b (b .coords)
+  bodies-rooted = record {
+    few = few;
+    below = λ i h. leb-true (bodyAt b i .parent) i (pass i h .0);
+    driven = λ i h. pass i h .1;
+  }
+    where
+      pass : (i : ℕ) → i < b .count → (leb (bodyAt b i .parent) i ≡ true) × (coordBelow (b .coords) (bodyAt b i .joint) ≡ true)
+      pass i h = both _ _ (not-no _ (body-pass i h))
+
+pub stand-rooted : (b : Bodies) → bodiesStand b ≡ Accepted → Rooted b (b .coords)
+unfolding bodiesStand
+stand-rooted b e =
+    let a = passed (refusedIf (ltb 15 (b .count) || ltb 16 (b .coords)) LimitPassed) (bodiesChecked b) e in
+    let n = neither (ltb 15 (b .count)) (ltb 16 (b .coords)) (no-refusal (ltb 15 (b .count) || ltb 16 (b .coords)) LimitPassed (a .0)) in
+    bodies-rooted b (ltb-false 15 (b .count) (n .0)) (ap isAccepted (a .1))
 
 module _ (m : Mechanism) (e : checkOf m ≡ Accepted) where
   no-limit : limitPassed m ≡ false
@@ -221,23 +253,8 @@ module _ (m : Mechanism) (e : checkOf m ≡ Accepted) where
       go true h = refl
       go false h = absurd (false≢true (sym h ∙ ap isAccepted (sym (at-bodies m no-limit h) ∙ e)))
 
-  body-pass : (i : ℕ) → i < m .bodies .count → misplaced (m .bodies .coords) (bodyAt (m .bodies) i) i ≡ false
-  unfolding bodiesChecked
-  body-pass i h = not-misplaced (misplaced (m .bodies .coords) (bodyAt (m .bodies) i) i) (first-none isAccepted Accepted _ (m .bodies .count) 0 bodies-pass i (omega arith) (omega arith))
-    where
-      not-misplaced : (b : Bool) → isAccepted (refusedIf b (BodyNotPlaced (i + 1))) ≡ true → b ≡ false
-      not-misplaced true g = absurd (false≢true g)
-      not-misplaced false g = refl
-
   pub accepted-rooted : Rooted (m .bodies) (m .bodies .coords)
-  accepted-rooted = record {
-    few = accepted-few .bodies;
-    below = λ i h. leb-true (bodyAt (m .bodies) i .parent) i (pass i h .0);
-    driven = λ i h. pass i h .1;
-  }
-    where
-      pass : (i : ℕ) → i < m .bodies .count → (leb (bodyAt (m .bodies) i .parent) i ≡ true) × (coordBelow (m .bodies .coords) (bodyAt (m .bodies) i .joint) ≡ true)
-      pass i h = both _ _ (not-no _ (body-pass i h))
+  accepted-rooted = bodies-rooted (m .bodies) (accepted-few .bodies) bodies-pass
 
   -- no side passes a limit
   pub accepted-sides : (i : ℕ) → i < m .pairs .count → (sideOver (pairAt (m .pairs) i .a) ≡ false) × (sideOver (pairAt (m .pairs) i .b) ≡ false)

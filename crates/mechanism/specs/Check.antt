@@ -115,6 +115,10 @@ misplaced coords b i = not (leb (b .parent) i && coordBelow coords (b .joint))
 unfoldable pub bodiesChecked : Bodies → Checked
 bodiesChecked b = firstRefused (λ i. refusedIf (misplaced (b .coords) (bodyAt b i) i) (BodyNotPlaced (i + 1))) (b .count) 0
 
+-- 3 and 4 of the bodies by themselves
+unfoldable pub bodiesStand : Bodies → Checked
+bodiesStand b = andThen (refusedIf (ltb 15 (b .count) || ltb 16 (b .coords)) LimitPassed) (bodiesChecked b)
+
 -- ---- 5: an axis or an arc's direction has no `Dir::new`, or a revolved axis is NaN
 abbrev pub hasNone : MaybeDir → Bool
 hasNone (SomeDir d) = false

@@ -1,7 +1,7 @@
 -- mechanism/pose.rs, operation by operation; a pose takes for each coordinate its value, sine and cosine. Definitions only.
 use Prim.Native.Nat.{ℕ, zero, suc, _+_, _<_, _≤_}
 use mathlib.Core.Path.{_≡_}
-use mathlib.Core.Bool.{Bool, true, cond, _&&_, _||_}
+use mathlib.Core.Bool.{Bool, true, cond, _&&_, _||_, not}
 use mathlib.Core.List.{List, [], _∷_, _++_}
 use lib.Dec.{ltb, leb, eqb}
 use lib.ListN.{length, getD, set, replicate}
@@ -13,14 +13,14 @@ use Rattle.ieee.specs.Operators.{_⊕_, _⊖_, _⊗_}
 use Rattle.geometry.specs.Geometry.{vectorOf}
 use Rattle.geometry.specs.declared.Point.{Point}
 use Rattle.mechanism.specs.Description.{noPoint, noBody, bodyAt}
-use Rattle.mechanism.specs.Check.{coordBelow, callChecked}
+use Rattle.mechanism.specs.Check.{coordBelow, callChecked, bodiesStand, andThen, refusedIf}
 use Rattle.mechanism.specs.declared.Body.{Body}
 use Rattle.mechanism.specs.declared.Joint.{Joint}
 use Rattle.mechanism.specs.declared.Joint.the-variants.{Ground, Revolute, Prismatic}
 use Rattle.mechanism.specs.declared.Bodies.{Bodies}
 use Rattle.mechanism.specs.declared.Mechanism.{Mechanism}
 use Rattle.mechanism.specs.declared.Problem.{Problem}
-use Rattle.mechanism.specs.declared.Problem.the-variants.{NoSuchThing}
+use Rattle.mechanism.specs.declared.Problem.the-variants.{NoSuchThing, PoseNotMatching}
 use Rattle.mechanism.specs.declared.Checked.{Checked}
 use Rattle.mechanism.specs.declared.Checked.the-variants.{Accepted, Refused}
 use Rattle.mechanism.specs.declared.pose.Placement.{Placement}
@@ -102,6 +102,10 @@ pub record Rooted (b : Bodies) (coords : ℕ) : Type 0 where
 -- 3 to 11: one entry a coordinate
 abbrev pub poseChecked : Mechanism → List (List Float) → Checked
 poseChecked m q = callChecked m (eqb (length q) (m .bodies .coords)) true true
+
+-- the same of the bodies by themselves: 3 and 4, then 11
+abbrev pub bodiesPosed : Bodies → List (List Float) → Checked
+bodiesPosed b q = andThen (bodiesStand b) (refusedIf (not (eqb (length q) (b .coords))) PoseNotMatching)
 
 -- a refusal comes with no placements
 abbrev pub noPose : Problem → Posed

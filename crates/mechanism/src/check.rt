@@ -3,7 +3,7 @@ ghost use mathlib.Core.Path.{_≡_};
 ghost use mathlib.Core.Bool.{not};
 ghost use Prim.Native.Nat.{_+_, _≤_, _<_};
 ghost use Rattle.mechanism.specs.Description.{startOfPart, silhouetteLength, rangeLength, turnedLength};
-ghost use Rattle.mechanism.specs.Check.{numberOf, placeOf, isAccepted, sideOver, pairOver, partsOver, pairsOver, limitPassed, coordBelow, misplaced, bodiesChecked, noDir, jointLacks, sweepLacks, segLacks, bodiesLack, partsLack, outlinesLack, directionMissing, pointFinite, samePoint, segOpen, outlineOpen, partChecked, partsChecked, partDraws, isWrong, withBody, withDrawn, sideEnd, sideBody, sidesChecked, pairsChecked, checkOf, callChecked, isOn, sideDrawn, pairDrawn, FewParts, FewPairs, Few};
+ghost use Rattle.mechanism.specs.Check.{numberOf, placeOf, isAccepted, sideOver, pairOver, partsOver, pairsOver, limitPassed, coordBelow, misplaced, bodiesChecked, bodiesStand, noDir, jointLacks, sweepLacks, segLacks, bodiesLack, partsLack, outlinesLack, directionMissing, pointFinite, samePoint, segOpen, outlineOpen, partChecked, partsChecked, partDraws, isWrong, withBody, withDrawn, sideEnd, sideBody, sidesChecked, pairsChecked, checkOf, callChecked, isOn, sideDrawn, pairDrawn, FewParts, FewPairs, Few};
 use super::Bodies;
 use super::Body;
 use super::Checked;
@@ -196,6 +196,16 @@ fn bodies_checked(b: Bodies) -> Checked
         }
     }
     Checked::Accepted
+}
+
+// 3 and 4 of the bodies by themselves.
+pub fn bodies_stand(b: Bodies) -> Checked
+    ensures { λ r. ⌜ r ≡ bodiesStand b ⌝ }
+{
+    if (15 < b.count) | (16 < b.coords) {
+        return Checked::Refused(Problem::LimitPassed);
+    }
+    bodies_checked(b)
 }
 
 // ---- 5: an axis or an arc's direction has no `Dir::new`, or a revolved axis is NaN

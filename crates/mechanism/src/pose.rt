@@ -4,13 +4,14 @@ ghost use mathlib.Core.Bool.{true};
 ghost use Prim.Native.Nat.{_+_, _≤_, _<_};
 ghost use lib.ListN.{length, take};
 ghost use Rattle.mechanism.specs.Check.{coordBelow};
-ghost use Rattle.mechanism.specs.Pose.{rotateOf, worldOf, isWorld, hinged, slid, placedOf, placementsOf, poseChecked, posedOf, noPose, columnOf, columnIn, columnsOf, columnsIn, noMove, lastColumn, placementAt, placementOf, poseFits, pointOf, columnFor, jacobianChecked, jacobianOf, bodyNumbered, bodyAnswer, bodyCheckedAt, Rooted};
+ghost use Rattle.mechanism.specs.Pose.{rotateOf, worldOf, isWorld, hinged, slid, placedOf, placementsOf, poseChecked, bodiesPosed, posedOf, noPose, columnOf, columnIn, columnsOf, columnsIn, noMove, lastColumn, placementAt, placementOf, poseFits, pointOf, columnFor, jacobianChecked, jacobianOf, bodyNumbered, bodyAnswer, bodyCheckedAt, Rooted};
 use super::Bodies;
 use super::Body;
 use super::Checked;
 use super::Joint;
 use super::Mechanism;
 use super::Problem;
+use super::check::bodies_stand;
 use super::check::check;
 use geometry::Point;
 
@@ -356,6 +357,29 @@ fn body_numbered(b: Bodies, n: usize) -> Body
         };
     }
     b.body[n - 1]
+}
+
+impl Bodies {
+    // Places the bodies of a description by themselves.
+    pub fn pose(self, q: &[Lent]) -> Posed
+        ensures { λ r. ⌜ r ≡ posedOf (bodiesPosed self (now (q .entry))) self (now (q .entry)) ⌝ }
+    {
+        let c = bodies_stand(self);
+        match c {
+            Checked::Refused(p) => no_pose(p),
+            Checked::Accepted => {
+                if q.len() == self.coords {
+                    let pose = placements(self, q);
+                    Posed {
+                        checked: Checked::Accepted,
+                        pose,
+                    }
+                } else {
+                    no_pose(Problem::PoseNotMatching)
+                }
+            }
+        }
+    }
 }
 
 impl Mechanism {

@@ -54,7 +54,8 @@ impl Row {
     }
 }
 
-fn piece_from(letter: usize, part: usize, seg: usize) -> Piece
+// The piece of three whole numbers.
+pub fn piece_from(letter: usize, part: usize, seg: usize) -> Piece
     ensures { λ r. ⌜ r ≡ pieceIn letter part seg ⌝ }
 {
     if letter == 0 {

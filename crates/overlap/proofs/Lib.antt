@@ -4,3 +4,6 @@ pub mod Lent
 pub mod Listed
 pub mod Pairwise
 pub mod Answers
+pub mod Deepest
+pub mod Drawn
+pub mod PairRows

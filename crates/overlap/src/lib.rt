@@ -13,6 +13,9 @@ ghost use Rattle.material.specs.Material.{materialOf, depthOf};
 ghost use Rattle.drawing.specs.Drawing.{isSampled, isReadCut, whatIs, chosenMaterial};
 ghost use Rattle.drawing.specs.Samples.{mouthsIn};
 ghost use Rattle.overlap.specs.Overlap.{sunkBy, sunkOf, ownerIn, featuresOverlap, centerOverlap, pairOverlap, pairOverlapAt, isIn, allParts, pairOverlapAnswer, overlapAnswer, partsOverlap, partsOverlapAnswer, ownerAt, asOwners};
+
+pub mod prepared;
+
 use drawing::Chosen;
 use drawing::Polygons;
 use drawing::draw;

@@ -1,3 +1,4 @@
 pub mod Arrays
 pub mod OfPairs
 pub mod Answer
+pub mod Over

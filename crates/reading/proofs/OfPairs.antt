@@ -79,7 +79,7 @@ least-of : (n a b : ℕ) → n ≤ a → n ≤ b → (t : Bool) → n ≤ cond t
 least-of n a b h k true = h
 least-of n a b h k false = k
 
-all-records : (n a b : ℕ) → n ≤ a → n ≤ b → recordsIn n a b ≡ n
+pub all-records : (n a b : ℕ) → n ≤ a → n ≤ b → recordsIn n a b ≡ n
 all-records n a b h k = lesser-first n (lesser a b) (least-of n a b h k (ltb a b))
 
 -- ---- all pairs: an array that is being written with what is read of them

@@ -16,6 +16,9 @@ ghost use Rattle.shown_rows.specs.Rows.{rowsOf, gradsOf, slipsOf, rowsChecked, 
 ghost use Rattle.governing.specs.Governing.{governingOf, recordsIn};
 ghost use Rattle.bearings.specs.Bearing.{governedBearing, rowAt};
 ghost use Rattle.reading.specs.Reading.{pairReadings, noPairReading, readingOf};
+
+pub mod prepared;
+
 use bearings::governed;
 use faces::sides_overlap;
 use mechanism::Checked;

@@ -1,5 +1,5 @@
 -- What an accepted description is known to be where its rows are written: its sides stand on bodies that there are, and a pair has no more candidates than its bound. Assumes nothing.
-use Prim.Native.Nat.{ℕ, _*_, _<_, _≤_}
+use Prim.Native.Nat.{ℕ, _+_, _*_, _<_, _≤_}
 use native.Mathlib.Omega.{arith}
 use native.Mathlib.Nat.{mul-le-mul}
 use mathlib.Core.Path.{_≡_, refl, ap}
@@ -32,7 +32,8 @@ use Rattle.sides.specs.Bounds.{rowBound}
 use Rattle.sides.specs.Contacts.{pairFeatures}
 use Rattle.sides.specs.Features.{sideOf}
 use Rattle.sides.specs.declared.contacts.PairFeatures.{PairFeatures}
-use Rattle.candidates.specs.Candidates.{readAB, readBA, readDiscs, readCenter, each, facesAt, discsAt, centerIn, candidatesBy, pairCandidates}
+use Rattle.material.specs.Material.{Material}
+use Rattle.candidates.specs.Candidates.{readAB, readBA, readDiscs, readCenter, each, facesAt, discsAt, centerIn, candidatesBy, pairCandidates, featuresCandidates, centerCandidates}
 use Rattle.candidates.specs.declared.Candidate.{Candidate}
 use Rattle.candidates.proofs.Wrote.{ab-short, ba-short, discs-short, center-short}
 
@@ -92,18 +93,24 @@ each-short f h l r n k a b =
 few-of : {A B : Type 0} (g : A → B) (n : ℕ) (l : List A) → length (map g (take n l)) ≤ n
 few-of g n l = let e = length-map (take n l) g in let t = length-take n l in omega (arith, e, t)
 
-by-few : (g : PairGeometry) (ps : Parts) (o : Outlines) (q : Pose) (p : ContactPair) (f : PairFeatures) → length (candidatesBy g ps o q p f) ≤ rowBound g (f .a) (f .b)
-by-few Features ps o q p f =
-    let x = each-short (readAB (sideMaterial ps o q (p .b) true)) (ab-short _) (discsAt (f .a) q) (facesAt (f .b) q) (f .a .discs) (f .b .faces) (few-of _ (f .a .discs) (f .a .disc)) (few-of _ (f .b .faces) (f .b .face)) in
-    let y = each-short (readBA (sideMaterial ps o q (p .a) true)) (ba-short _) (discsAt (f .b) q) (facesAt (f .a) q) (f .b .discs) (f .a .faces) (few-of _ (f .b .discs) (f .b .disc)) (few-of _ (f .a .faces) (f .a .face)) in
+pub features-few : (ma mb : Material) (f : PairFeatures) (q : Pose) → length (featuresCandidates ma mb f q) ≤ f .a .discs * f .b .faces + f .b .discs * f .a .faces + f .a .discs * f .b .discs
+features-few ma mb f q =
+    let x = each-short (readAB mb) (ab-short _) (discsAt (f .a) q) (facesAt (f .b) q) (f .a .discs) (f .b .faces) (few-of _ (f .a .discs) (f .a .disc)) (few-of _ (f .b .faces) (f .b .face)) in
+    let y = each-short (readBA ma) (ba-short _) (discsAt (f .b) q) (facesAt (f .a) q) (f .b .discs) (f .a .faces) (few-of _ (f .b .discs) (f .b .disc)) (few-of _ (f .a .faces) (f .a .face)) in
     let z = each-short readDiscs discs-short (discsAt (f .a) q) (discsAt (f .b) q) (f .a .discs) (f .b .discs) (few-of _ (f .a .discs) (f .a .disc)) (few-of _ (f .b .discs) (f .b .disc)) in
-    let s = length-append (each (readAB (sideMaterial ps o q (p .b) true)) (discsAt (f .a) q) (facesAt (f .b) q)) (each (readBA (sideMaterial ps o q (p .a) true)) (discsAt (f .b) q) (facesAt (f .a) q) ++ each readDiscs (discsAt (f .a) q) (discsAt (f .b) q)) in
-    let t = length-append (each (readBA (sideMaterial ps o q (p .a) true)) (discsAt (f .b) q) (facesAt (f .a) q)) (each readDiscs (discsAt (f .a) q) (discsAt (f .b) q)) in
+    let s = length-append (each (readAB mb) (discsAt (f .a) q) (facesAt (f .b) q)) (each (readBA ma) (discsAt (f .b) q) (facesAt (f .a) q) ++ each readDiscs (discsAt (f .a) q) (discsAt (f .b) q)) in
+    let t = length-append (each (readBA ma) (discsAt (f .b) q) (facesAt (f .a) q)) (each readDiscs (discsAt (f .a) q) (discsAt (f .b) q)) in
     omega (arith, x, y, z, s, t)
-by-few CenterBearing ps o q p f =
-    let s = flat-short (readCenter (sideMaterial ps o q (p .a) false) (f .b .center .piece) (centerIn (f .b) q)) 1 (center-short _ _ _) (facesAt (f .a) q) in
+
+pub center-few : (ma : Material) (f : PairFeatures) (q : Pose) → length (centerCandidates ma f q) ≤ f .a .faces
+center-few ma f q =
+    let s = flat-short (readCenter ma (f .b .center .piece) (centerIn (f .b) q)) 1 (center-short _ _ _) (facesAt (f .a) q) in
     let t : length (facesAt (f .a) q) ≤ f .a .faces = few-of _ (f .a .faces) (f .a .face) in
     omega (arith, s, t)
+
+by-few : (g : PairGeometry) (ps : Parts) (o : Outlines) (q : Pose) (p : ContactPair) (f : PairFeatures) → length (candidatesBy g ps o q p f) ≤ rowBound g (f .a) (f .b)
+by-few Features ps o q p f = features-few (sideMaterial ps o q (p .a) true) (sideMaterial ps o q (p .b) true) f q
+by-few CenterBearing ps o q p f = center-few (sideMaterial ps o q (p .a) false) f q
 
 pub candidates-few : (ps : Parts) (o : Outlines) (q : Pose) (p : ContactPair) → length (pairCandidates ps o q p) ≤ rowBound (p .geometry) (pairFeatures ps o p .a) (pairFeatures ps o p .b)
 unfolding pairCandidates

@@ -8,3 +8,4 @@ pub mod AllPairs
 pub mod OfPair
 pub mod Total
 pub mod Answer
+pub mod FromRows

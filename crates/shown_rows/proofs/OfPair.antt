@@ -45,7 +45,7 @@ all-written ps o q p {near₀ = near₀} {named₀ = named₀} d h k w =
     wrote-same (cond-yes (pairCandidates ps o q p) [] (and-yes _ d ∙ and-yes _ (le-leb 784 (length near₀) h) ∙ le-leb 784 (length named₀) k)) w
 
 -- no more are shown than there are
-shown-few : (cs : List Candidate) (m : Float) → length (shownOf cs m) ≤ length cs
+pub shown-few : (cs : List Candidate) (m : Float) → length (shownOf cs m) ≤ length cs
 unfolding shownOf shown
 shown-few cs m = filter-length _ (length cs) 0
 

@@ -14,7 +14,7 @@ use Rattle.sides.specs.Contacts.{pairBound, mechanismBound}
 use Rattle.shown_rows.specs.Rows.{rowsOfPair, rowsOf}
 use Rattle.shown_rows.proofs.OfPair.{rows-few}
 
-flat-few : (f : ℕ → List Row) (b : ℕ → ℕ) → ((i : ℕ) → length (f i) ≤ b i) → (k j : ℕ) → length (flat f (listIn (λ i. i) k j)) ≤ sumIn b k j
+pub flat-few : (f : ℕ → List Row) (b : ℕ → ℕ) → ((i : ℕ) → length (f i) ≤ b i) → (k j : ℕ) → length (flat f (listIn (λ i. i) k j)) ≤ sumIn b k j
 unfolding flat listIn
 flat-few f b h zero j = omega arith
 flat-few f b h (suc k) j =

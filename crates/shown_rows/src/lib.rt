@@ -16,6 +16,9 @@ ghost use Rattle.sides.specs.Bounds.{rowBound};
 ghost use Rattle.sides.specs.Contacts.{pairFeatures, mechanismBound};
 ghost use Rattle.showing.specs.Showing.{hides, hidden, shows, shown, within};
 ghost use Rattle.shown_rows.specs.Rows.{decidesIn, alikeIn, alikeRows, outdoesBy, Driven, addInto, subFrom, placeIn, gradIn, slipIn, Put, Room, rowsOf, gradsOf, slipsOf, rowsChecked, answerIf, ifAccepted};
+
+pub mod prepared;
+
 use candidates::pair_candidates;
 use drawing::body_of_side;
 use geometry::Point;

@@ -1,0 +1,84 @@
+-- The deepest of samples by squares: a turn of the loop over a part's samples, and of the loop over the parts. Assumes nothing.
+use Prim.Native.Nat.{ℕ, _+_, _-_, _<_, _≤_}
+use native.Mathlib.Nat.{add-zero, sub-zero}
+use mathlib.Core.Path.{_≡_, sym, ap, ap₂, subst, _∙_}
+use mathlib.Core.Bool.{true, false}
+use mathlib.Core.List.{List, map}
+use lib.Ieee.{Float}
+use Rattle.laws.specs.Lists.{listIn, foldl}
+use Rattle.laws.specs.Loops.{filterIn}
+use Rattle.laws.proofs.Lists.{foldl-map}
+use Rattle.laws.proofs.Loops.{filter-yes, filter-no, filter-done}
+use Rattle.ieee.specs.Consts.{zeroF}
+use Rattle.ieee.specs.Num.{maxOf}
+use Rattle.ieee.specs.Root.{rootOf}
+use Rattle.geometry.specs.declared.Point.{Point}
+use Rattle.mechanism.specs.Pose.{placementAt, worldOf}
+use Rattle.mechanism.specs.declared.pose.Placement.{Placement}
+use Rattle.mechanism.specs.declared.pose.Pose.{Pose}
+use Rattle.material.specs.Material.{Material, squareDepth, deepestOf, deepestSquare}
+use Rattle.material.proofs.Squares.{PlainNumber, zero-root, deepest-root, deepest-plain}
+use Rattle.strips.specs.Strips.{partAt, pointAt}
+use Rattle.strips.specs.declared.PartFacts.{PartFacts}
+use Rattle.drawing.specs.Drawing.{chosenAs}
+use Rattle.drawing.specs.Prepared.{partsIn}
+use Rattle.drawing.specs.declared.Chosen.{Chosen}
+use Rattle.drawing.proofs.Lays.{turn-from, done-from}
+use Rattle.overlap.specs.Prepared.{samplesIn, sunkIn}
+
+-- ---- over the samples of a part, f i of them from `first` on, each placed
+module _ (m : Material) (place : Point → Point) (f : ℕ → Point) (first count : ℕ) where
+  abbrev step : Float → Point → Float
+  step x p = maxOf x (squareDepth m (place p))
+
+  -- what is left to do from sample i on
+  abbrev pub squaresFrom : Float → ℕ → Float
+  squaresFrom d i = foldl step d (listIn f (count - i) (first + i))
+
+  pub squares-start : (d : Float) → squaresFrom d 0 ≡ deepestSquare m d (map place (listIn f count first))
+  squares-start d = ap₂ (λ (k j : ℕ). foldl step d (listIn f k j)) (sub-zero count) (add-zero first) ∙ sym (foldl-map (λ x p. maxOf x (squareDepth m p)) place d (listIn f count first))
+
+  pub squares-more : (d e : Float) (i : ℕ) → i < count → maxOf d (squareDepth m (place (f (first + i)))) ≡ e → squaresFrom e (i + 1) ≡ squaresFrom d i
+  unfolding foldl
+  squares-more d e i h t = ap (λ (x : Float). foldl step x (listIn f (count - (i + 1)) (first + (i + 1)))) (sym t) ∙ ap (foldl step d) (sym (turn-from f first count i h))
+
+  pub squares-end : (d : Float) (i : ℕ) → count ≤ i → squaresFrom d i ≡ d
+  unfolding foldl
+  squares-end d i h = ap (foldl step d) (done-from f first count i h)
+
+-- ---- over the parts that are sampled
+module _ (sampled : List (List Float)) (parts : List (List ℕ)) (q : Pose) (w : Chosen) (m : Material) where
+  abbrev sink : Float → ℕ → Float
+  sink d i = deepestOf m d (samplesIn sampled parts q i)
+
+  -- what is left to do from part i on, d being the square of the depth so far
+  abbrev pub sunkFrom : Float → ℕ → Float
+  sunkFrom d i = foldl sink (rootOf d) (filterIn (chosenAs w 1) (partsIn parts - i) i)
+
+  pub sunk-start : sunkFrom zeroF 0 ≡ sunkIn sampled parts q w m
+  unfolding sunkIn
+  sunk-start = ap₂ (λ (x : Float) (k : ℕ). foldl sink x (filterIn (chosenAs w 1) k 0)) zero-root (sub-zero (partsIn parts))
+
+  module _ (d : Float) {e : Float} {p : PartFacts} {place : Placement} (i : ℕ) (part : p ≡ partAt parts i) (placed : place ≡ placementAt q (p .body)) (now : PlainNumber d)
+      (taken : e ≡ deepestSquare m d (map (worldOf place) (listIn (pointAt sampled) (p .samples) (p .sampled)))) where
+    samples-taken : e ≡ deepestSquare m d (samplesIn sampled parts q i)
+    unfolding samplesIn
+    samples-taken =
+        taken ∙ ap (λ (k : Placement). deepestSquare m d (map (worldOf k) (listIn (pointAt sampled) (p .samples) (p .sampled)))) placed
+        ∙ ap (λ (p : PartFacts). deepestSquare m d (map (worldOf (placementAt q (p .body))) (listIn (pointAt sampled) (p .samples) (p .sampled)))) part
+
+    pub sunk-plain : PlainNumber e
+    sunk-plain = subst PlainNumber (sym samples-taken) (deepest-plain m (samplesIn sampled parts q i) d now)
+
+    pub sunk-more : i < partsIn parts → chosenAs w 1 i ≡ true → sunkFrom e (i + 1) ≡ sunkFrom d i
+    unfolding foldl
+    sunk-more h t =
+        ap (λ (x : Float). foldl sink x (filterIn (chosenAs w 1) (partsIn parts - (i + 1)) (i + 1))) (ap rootOf samples-taken ∙ sym (deepest-root m (samplesIn sampled parts q i) d now))
+        ∙ ap (foldl sink (rootOf d)) (sym (filter-yes (chosenAs w 1) (partsIn parts) i h t))
+
+  pub sunk-skip : (d : Float) (i : ℕ) → i < partsIn parts → chosenAs w 1 i ≡ false → sunkFrom d (i + 1) ≡ sunkFrom d i
+  sunk-skip d i h t = ap (foldl sink (rootOf d)) (sym (filter-no (chosenAs w 1) (partsIn parts) i h t))
+
+  pub sunk-end : (d : Float) (i : ℕ) → partsIn parts ≤ i → sunkFrom d i ≡ rootOf d
+  unfolding foldl
+  sunk-end d i h = ap (foldl sink (rootOf d)) (filter-done (chosenAs w 1) (partsIn parts) i h)

@@ -1,0 +1,3 @@
+pub mod Sunk
+pub mod Pairs
+pub mod Whole

@@ -1,0 +1,5 @@
+pub mod Known
+pub mod Written
+pub mod Puts
+pub mod Points
+pub mod Features
