@@ -14,7 +14,7 @@ use Rattle.reading.specs.Reading.{pairReadings, readingOf}
 use Rattle.reading.specs.Prepared.{poseOf, pairReadingsIn, readIn, readChecked}
 use Rattle.tables.specs.Tables.{Agrees, faceTable, faceNameTable, discTable, discNameTable, sideTable, centerTable, choiceTable, drawnTable, sampledTable, partTable}
 
--- the tables of m stand in the front of the arrays
+-- the tables of m, that of its parts apart, stand in the front of the arrays
 pub record Holds (m : Mechanism) (faceRows : List (List Float)) (faceNames : List (List ℕ)) (discRows : List (List Float)) (discNames sideRows : List (List ℕ)) (centerRows : List (List Float)) (choiceRows : List (List ℕ)) (drawnRows sampledRows : List (List Float)) : Type 0 where
   pub faces : Agrees faceRows (faceTable m)
   pub fnames : Agrees faceNames (faceNameTable m)
@@ -26,7 +26,7 @@ pub record Holds (m : Mechanism) (faceRows : List (List Float)) (faceNames : Lis
   pub drawn : Agrees drawnRows (drawnTable (m .parts) (m .outlines))
   pub sampled : Agrees sampledRows (sampledTable (m .parts) (m .outlines))
 
--- what is read over the arrays is what the description gives
+-- what is read over the arrays and the table of the parts, with nothing behind it, is what the description gives
 pub record ReadsAs (m : Mechanism) (faceRows : List (List Float)) (faceNames : List (List ℕ)) (discRows : List (List Float)) (discNames sideRows : List (List ℕ)) (centerRows : List (List Float)) (choiceRows : List (List ℕ)) (drawnRows sampledRows : List (List Float)) : Type 0 where
   pub rows : (q : Pose) (margin : Float) → allRows faceRows faceNames discRows discNames sideRows centerRows choiceRows drawnRows (partTable (m .parts) (m .outlines)) q margin (m .pairs .count) ≡ rowsOf m q margin
   pub grads : (q : Pose) (margin : Float) → allGrads faceRows faceNames discRows discNames sideRows centerRows choiceRows drawnRows (partTable (m .parts) (m .outlines)) (m .bodies) q margin (m .pairs .count) ≡ gradsOf m q margin

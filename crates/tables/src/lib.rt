@@ -54,6 +54,36 @@ use strips::disc_row;
 use strips::face_row;
 use strips::piece_row;
 
+// The drawn points of all parts.
+pub type DrawnRows = [PointRow; 6144];
+
+// The sampled points of all parts.
+pub type SampledRows = [PointRow; 13056];
+
+// The parts.
+pub type PartRows = [PartRow; 32];
+
+// The faces of all sides.
+pub type FaceRows = [FaceRow; 384];
+
+// The pieces of the faces.
+pub type FaceNames = [PieceRow; 384];
+
+// The discs of all sides.
+pub type DiscRows = [DiscRow; 896];
+
+// The pieces of the discs.
+pub type DiscNames = [PieceRow; 896];
+
+// The sides of all pairs.
+pub type SideRows = [SideRow; 32];
+
+// The sides' centers.
+pub type CenterRows = [PointRow; 32];
+
+// The parts that make the sides' material.
+pub type ChoiceRows = [ChoiceRow; 64];
+
 // ---- points
 
 // Writes the points of a segment as it is drawn, from `at` on.
@@ -485,16 +515,16 @@ fn put_pairs(
 // Writes the tables of a description that is accepted from the front of the lent arrays; everything behind them stays, and everything where it is refused.
 pub fn prepare(
     m: Mechanism,
-    drawn: &mut [PointRow; 6144],
-    sampled: &mut [PointRow; 13056],
-    parts: &mut [PartRow; 32],
-    faces: &mut [FaceRow; 384],
-    fnames: &mut [PieceRow; 384],
-    discs: &mut [DiscRow; 896],
-    dnames: &mut [PieceRow; 896],
-    sides: &mut [SideRow; 32],
-    centers: &mut [PointRow; 32],
-    choices: &mut [ChoiceRow; 64],
+    drawn: &mut DrawnRows,
+    sampled: &mut SampledRows,
+    parts: &mut PartRows,
+    faces: &mut FaceRows,
+    fnames: &mut FaceNames,
+    discs: &mut DiscRows,
+    dnames: &mut DiscNames,
+    sides: &mut SideRows,
+    centers: &mut CenterRows,
+    choices: &mut ChoiceRows,
 ) -> Checked
     ensures { λ r. ⌜ r ≡ checkOf m ⌝ }
     ensures { λ _. ⌜ (now (drawn .exit) ≡ writtenIf (checkOf m) (now (drawn .entry)) (drawnTable (m .parts) (m .outlines))) × (now (sampled .exit) ≡ writtenIf (checkOf m) (now (sampled .entry)) (sampledTable (m .parts) (m .outlines))) × (now (parts .exit) ≡ writtenIf (checkOf m) (now (parts .entry)) (partTable (m .parts) (m .outlines))) ⌝ }
