@@ -6,12 +6,11 @@ ghost use Prim.Native.Nat.{_<_, _≤_};
 ghost use lib.ListN.{length, take};
 ghost use lib.Seq.{sets};
 ghost use Rattle.laws.specs.Lists.{any};
-ghost use Rattle.mechanism.specs.Description.{pairAt};
 ghost use Rattle.mechanism.specs.Piece.{samePiece};
 ghost use Rattle.mechanism.specs.Rows.{pairIn, gapIn};
 ghost use Rattle.candidates.specs.Candidates.{facesIn, discsIn};
 ghost use Rattle.governing.specs.Governing.{governingOf, recordsIn};
-ghost use Rattle.bearings.specs.Bearing.{samePoint, atEnd, meetsRow, spotOf, endsOf, firstOf, faceNamed, facingOf, reachOf, scoreOf, bestFace, runOf, alongside, slopeAlong, slopeOf, slopeBetween, spans, isLevel, isFlat, bearsAs, stopAt, stopUnder, towardOf, keyAt, cornerBearing, edgeOn, edgeBearing, bearingOf, governedBearing, rowAt, bearingFrom};
+ghost use Rattle.bearings.specs.Bearing.{samePoint, atEnd, meetsRow, spotOf, endsOf, firstOf, faceNamed, facingOf, reachOf, scoreOf, bestFace, runOf, alongside, slopeAlong, slopeOf, slopeBetween, spans, isLevel, isFlat, bearsAs, stopAt, stopUnder, towardOf, keyAt, cornerBearing, edgeOn, edgeBearing, bearingOf, governedBearing, rowAt};
 ghost use Rattle.bearings.specs.declared.MaybeFace.the-variants.{SomeFace};
 
 pub mod prepared;
@@ -34,19 +33,15 @@ use ieee::order::total_order;
 use ieee::root::root;
 use material::Spot;
 use mechanism::Checked;
-use mechanism::Mechanism;
-use mechanism::Pairs;
 use mechanism::bearing::Bearing;
 use mechanism::bearing::HowItBears;
 use mechanism::bearing::MaybeBearing;
 use mechanism::bearing::MaybeSlope;
-use mechanism::check::call_checked;
 use mechanism::features::Feature;
 use mechanism::features::Piece;
 use mechanism::features::letter;
 use mechanism::features::part;
 use mechanism::features::seg;
-use mechanism::pair::ContactPair;
 use mechanism::pose::Placement;
 use mechanism::pose::Pose;
 use mechanism::pose::placement_at;
@@ -58,7 +53,6 @@ use sides::PlacedDisc;
 use sides::PlacedFace;
 use sides::SideFeatures;
 use sides::contacts::PairFeatures;
-use sides::contacts::pair_features_at;
 
 // FLAT_WITHIN: how far the far edge of a stop's face may stand off for the faces to count as bedded flat, in metres.
 pub const FLAT_WITHIN: f64 = 2.5e-6;
@@ -516,13 +510,6 @@ pub fn bearing_of(f: PairFeatures, q: Pose, r: Row) -> MaybeBearing
     edge_bearing(a, pa, b, pb, r)
 }
 
-fn pair_at(pairs: Pairs, i: usize) -> ContactPair
-    requires { ⌜ i < 16 ⌝ }
-    ensures { λ r. ⌜ r ≡ pairAt pairs i ⌝ }
-{
-    pairs.pair[i]
-}
-
 // The bearing by the governing row of the pair among the first n rows, or among those that there are.
 pub fn governed(
     f: PairFeatures,
@@ -538,42 +525,5 @@ pub fn governed(
     match found {
         MaybeRow::SomeRow(i) => bearing_of(f, q, row_from(places[i], values[i])),
         MaybeRow::NoRow => MaybeBearing::NoBearing,
-    }
-}
-
-// How side A of a pair bears on side B, by the pair's governing row among the first n rows, or among those that there are.
-pub fn bearing_in(
-    m: Mechanism,
-    q: Pose,
-    places: &[Place],
-    values: &[Value],
-    n: usize,
-    pair: usize,
-) -> BearingAnswer
-    ensures { λ x. ⌜ x ≡ bearingFrom m q (rowAt (now (places .entry)) (now (values .entry))) (recordsIn n (length (now (places .entry))) (length (now (values .entry)))) pair ⌝ }
-{
-    let bodies = m.bodies;
-    let pairs = m.pairs;
-    let c = call_checked(m, q.fits(bodies), true, true);
-    match c {
-        Checked::Refused(p) => BearingAnswer {
-            checked: Checked::Refused(p),
-            bearing: MaybeBearing::NoBearing,
-        },
-        Checked::Accepted => {
-            if pair < pairs.count {
-                let ps = m.parts;
-                let o = m.outlines;
-                let f = pair_features_at(ps, o, pair_at(pairs, pair));
-                return BearingAnswer {
-                    checked: Checked::Accepted,
-                    bearing: governed(f, q, places, values, n, pair),
-                };
-            }
-            BearingAnswer {
-                checked: Checked::Accepted,
-                bearing: MaybeBearing::NoBearing,
-            }
-        }
     }
 }

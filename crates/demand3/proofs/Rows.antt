@@ -16,8 +16,9 @@ use Rattle.mechanism.specs.declared.Mechanism.{Mechanism}
 use Rattle.mechanism.specs.declared.pose.Pose.{Pose}
 use Rattle.mechanism.specs.declared.rows.Row.{Row}
 use Rattle.showing.proofs.Demand3.{margins}
-use Rattle.shown_rows.specs.Rows.{candidateAt, gapAt, decides, alike, shownOf, rowOf, leftOf, gradOf, slipOf, featuresOfPair, pairNumbers, rowsOfPair, rowsOf, gradsOfPair, slipsOfPair, gradsOf, slipsOf}
-use Rattle.shown_rows.proofs.Along.{along-long}
+use Rattle.pair_rows.specs.PairRows.{leftOf}
+use Rattle.shown_rows.specs.Rows.{candidateAt, gapAt, decides, alike, shownOf, rowOf, gradOf, slipOf, featuresOfPair, pairNumbers, rowsOfPair, rowsOf, gradsOfPair, slipsOfPair, gradsOf, slipsOf}
+use Rattle.pair_rows.proofs.Along.{along-long}
 use Rattle.demand3.specs.Demand3.{only, AtMost, candidatesOf, gradOfRow, slipOfRow}
 use Rattle.demand3.proofs.Pairs.{of-pair}
 

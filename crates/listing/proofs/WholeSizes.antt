@@ -29,8 +29,9 @@ use Rattle.mechanism.specs.declared.rows.Row.{Row}
 use Rattle.mechanism.proofs.Checks.{call-accepted, accepted-few}
 use Rattle.sides.specs.Contacts.{mechanismBound}
 use Rattle.sides.specs.declared.contacts.PairFeatures.{PairFeatures}
-use Rattle.shown_rows.specs.Rows.{gradOf, slipOf, leftOf, featuresOfPair, pairNumbers, rowsOfPair, rowsOf, roomFor, rowsChecked}
-use Rattle.shown_rows.proofs.Along.{along-long}
+use Rattle.pair_rows.specs.PairRows.{leftOf}
+use Rattle.shown_rows.specs.Rows.{gradOf, slipOf, featuresOfPair, pairNumbers, rowsOfPair, rowsOf, roomFor, rowsChecked}
+use Rattle.pair_rows.proofs.Along.{along-long}
 use Rattle.shown_rows.proofs.Total.{all-few}
 use Rattle.listing.specs.Digits.{digitCount, decimalOf}
 use Rattle.listing.specs.Lines.{oneByte, letterField, numberField, floatField, twoFields, floatFields, pieceFields, howField, slopeField, bearingFields}

@@ -36,7 +36,7 @@ use Rattle.candidates.specs.declared.Candidate.{Candidate}
 use Rattle.governing.specs.Governing.{governingOf}
 use Rattle.bearings.specs.Bearing.{rowAt}
 use Rattle.shown_rows.specs.Rows.{candidateAt, shownOf, rowOf, gradOf, slipOf, pairRows, rowsOfPair, gradsOfPair, slipsOfPair, rowsOf, gradsOf, slipsOf, rowsChecked}
-use Rattle.shown_rows.specs.Prepared.{rowsFrom, gradsFrom, slipsFrom, allRows, allGrads, allSlips, boundsIn, fallsOff, preparedChecked}
+use Rattle.prepared_rows.specs.Prepared.{rowsFrom, gradsFrom, slipsFrom, allRows, allGrads, allSlips, boundsIn, fallsOff, preparedChecked}
 use Rattle.shown_rows.proofs.Fits.{feature-a, feature-b}
 use Rattle.shown_rows.proofs.Fits as Fits
 use Rattle.reading.specs.Reading.{noPairReading, pairReading, pairReadings, readIf, readingOf}

@@ -9,7 +9,7 @@ use Rattle.mechanism.specs.declared.Mechanism.{Mechanism}
 use Rattle.mechanism.specs.declared.pose.Pose.{Pose}
 use Rattle.sides.specs.Contacts.{mechanismBound}
 use Rattle.shown_rows.specs.Rows.{rowsOf, gradsOf, slipsOf, rowsChecked}
-use Rattle.shown_rows.specs.Prepared.{allRows, allGrads, allSlips, boundsIn, preparedChecked}
+use Rattle.prepared_rows.specs.Prepared.{allRows, allGrads, allSlips, boundsIn, preparedChecked}
 use Rattle.reading.specs.Reading.{pairReadings, readingOf}
 use Rattle.reading.specs.Prepared.{poseOf, pairReadingsIn, readIn, readChecked}
 use Rattle.tables.specs.Tables.{Agrees, faceTable, faceNameTable, discTable, discNameTable, sideTable, centerTable, choiceTable, drawnTable, sampledTable, partTable}

@@ -15,7 +15,7 @@ use Rattle.mechanism.specs.declared.bearing.MaybeBearing.{MaybeBearing}
 use Rattle.mechanism.specs.declared.pose.Pose.{Pose}
 use Rattle.mechanism.specs.declared.rows.Row.{Row}
 use Rattle.sides.specs.declared.contacts.PairFeatures.{PairFeatures}
-use Rattle.shown_rows.proofs.Store.{sets-get}
+use Rattle.pair_rows.proofs.Store.{sets-get}
 use Rattle.governing.specs.Governing.{leastOf, governingOf, Governing}
 use Rattle.governing.specs.declared.MaybeRow.{MaybeRow}
 use Rattle.governing.specs.declared.MaybeRow.the-variants.{SomeRow, NoRow}

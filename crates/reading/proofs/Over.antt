@@ -31,9 +31,9 @@ use Rattle.overlap.specs.Prepared.{pairOverlapIn}
 use Rattle.faces.specs.Prepared.{faceOverlapIn}
 use Rattle.governing.specs.Governing.{recordsIn}
 use Rattle.shown_rows.specs.Rows.{answerIf, ifAccepted}
-use Rattle.shown_rows.specs.Prepared.{allRows, allGrads, allSlips, preparedChecked}
+use Rattle.prepared_rows.specs.Prepared.{allRows, allGrads, allSlips, preparedChecked}
 use Rattle.shown_rows.specs.declared.RowsAnswer.{RowsAnswer}
-use Rattle.shown_rows.proofs.FromRows.{accepted-room, all-rows-few}
+use Rattle.prepared_rows.proofs.FromRows.{accepted-room, all-rows-few}
 use Rattle.reading.specs.Reading.{noPairReading}
 use Rattle.reading.specs.Prepared.{poseOf, pairReadingIn, pairReadingsIn, readIn, readChecked}
 use Rattle.reading.specs.declared.PairReading.{PairReading}

@@ -21,7 +21,7 @@ use Rattle.overlap.specs.Prepared.{pairOverlapIn}
 use Rattle.faces.specs.Prepared.{faceOverlapIn}
 use Rattle.governing.specs.Governing.{governingOf}
 use Rattle.bearings.specs.Bearing.{governedBearing, rowAt}
-use Rattle.shown_rows.specs.Prepared.{preparedChecked}
+use Rattle.prepared_rows.specs.Prepared.{preparedChecked}
 use Rattle.reading.specs.Reading.{noPairReading}
 use Rattle.reading.specs.declared.PairReading.{PairReading}
 use Rattle.reading.specs.declared.Reading.{Reading}

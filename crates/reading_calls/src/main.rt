@@ -239,7 +239,7 @@ fn print_governed(
     pair: usize,
 ) {
     print_governing(places, values, n, pair);
-    let a = bearings::bearing_in(m, q, places, values, n, pair);
+    let a = row_records::bearing_in(m, q, places, values, n, pair);
     let c = a.checked;
     let b = a.bearing;
     match c {

@@ -4,11 +4,12 @@ ghost use Prim.Native.Nat.{_<_, _≤_};
 ghost use lib.ListN.{length};
 ghost use lib.Seq.{sets};
 ghost use Rattle.mechanism.specs.Description.{pairAt};
-ghost use Rattle.bearings.specs.Bearing.{rowAt};
-ghost use Rattle.governing.specs.Governing.{lesser};
+ghost use Rattle.bearings.specs.Bearing.{bearingFrom, rowAt};
+ghost use Rattle.governing.specs.Governing.{lesser, recordsIn};
 ghost use Rattle.row_records.specs.Records.{governingRecord, gapRecord, stepOf, bestOf, rowNumber, rowGap, bearingAt, bearingBest, bearingRecord, recordsOf, recordsFit};
 use bearings::BearingAnswer;
 use bearings::bearing_of;
+use bearings::governed;
 use governing::MaybeGap;
 use governing::MaybeRow;
 use mechanism::Checked;
@@ -193,4 +194,41 @@ pub fn records(out: &mut [Row], places: &[Place], values: &[Value], n: usize) ->
     let k = fewer(fewer(n, fewer(places.len(), values.len())), out.len());
     put_records(out, places, values, k);
     k
+}
+
+// How side A of a pair bears on side B, by the pair's governing row among the first n rows, or among those that there are.
+pub fn bearing_in(
+    m: Mechanism,
+    q: Pose,
+    places: &[Place],
+    values: &[Value],
+    n: usize,
+    pair: usize,
+) -> BearingAnswer
+    ensures { λ x. ⌜ x ≡ bearingFrom m q (rowAt (now (places .entry)) (now (values .entry))) (recordsIn n (length (now (places .entry))) (length (now (values .entry)))) pair ⌝ }
+{
+    let bodies = m.bodies;
+    let pairs = m.pairs;
+    let c = call_checked(m, q.fits(bodies), true, true);
+    match c {
+        Checked::Refused(p) => BearingAnswer {
+            checked: Checked::Refused(p),
+            bearing: MaybeBearing::NoBearing,
+        },
+        Checked::Accepted => {
+            if pair < pairs.count {
+                let ps = m.parts;
+                let o = m.outlines;
+                let f = pair_features_at(ps, o, pair_at(pairs, pair));
+                return BearingAnswer {
+                    checked: Checked::Accepted,
+                    bearing: governed(f, q, places, values, n, pair),
+                };
+            }
+            BearingAnswer {
+                checked: Checked::Accepted,
+                bearing: MaybeBearing::NoBearing,
+            }
+        }
+    }
 }

@@ -22,9 +22,10 @@ use Rattle.showing.specs.Showing.{deepF, within, hides, shows, shown}
 use Rattle.sides.specs.declared.contacts.PairFeatures.{PairFeatures}
 use Rattle.candidates.specs.Candidates.{nearRow, namedRow, Written}
 use Rattle.candidates.specs.declared.Candidate.{Candidate}
-use Rattle.shown_rows.specs.declared.Source.{Source}
-use Rattle.shown_rows.specs.Rows.{noCandidate, candidateAt, gapAt, decides, deciding, alike, shownOf, decidesIn, alikeIn, alikeRows, rowOf, gradOf, slipOf, placeIn, gradIn, slipIn}
-use Rattle.shown_rows.proofs.Store.{sets-get}
+use Rattle.pair_rows.specs.declared.Source.{Source}
+use Rattle.pair_rows.specs.PairRows.{decidesIn, alikeIn, alikeRows, placeIn, gradIn, slipIn}
+use Rattle.shown_rows.specs.Rows.{noCandidate, candidateAt, gapAt, decides, deciding, alike, shownOf, rowOf, gradOf, slipOf}
+use Rattle.pair_rows.proofs.Store.{sets-get}
 
 -- ---- functions that agree below the end
 any-below : (p r : ℕ → Bool) (k j : ℕ) → ((i : ℕ) → i < j + k → p i ≡ r i) → anyIn p k j ≡ anyIn r k j

@@ -15,7 +15,7 @@ use Rattle.laws.proofs.Sums.{sum-more}
 use Rattle.laws.proofs.Writing.{starts, appends, ends, ends-count}
 use Rattle.mechanism.specs.Description.{sumIn}
 use Rattle.mechanism.specs.declared.rows.Row.{Row}
-use Rattle.shown_rows.specs.Rows.{Put, Room}
+use Rattle.pair_rows.specs.PairRows.{Put, Room}
 
 -- lists of c each
 pub flat-long : {A B : Type 0} (f : A → List B) (c : ℕ) → ((x : A) → length (f x) ≡ c) → (l : List A) → length (flat f l) ≡ length l * c

@@ -23,7 +23,8 @@ use Rattle.mechanism.specs.declared.pose.Pose.{Pose}
 use Rattle.mechanism.proofs.Checks.{call-accepted, accepted-few}
 use Rattle.sides.specs.Contacts.{mechanismBound}
 use Rattle.shown_rows.specs.declared.RowsAnswer.{RowsAnswer}
-use Rattle.shown_rows.specs.Rows.{Put, Room, roomFor, rowsChecked, answerIf, ifAccepted, rowsOf, gradsOf, slipsOf}
+use Rattle.pair_rows.specs.PairRows.{Put, Room}
+use Rattle.shown_rows.specs.Rows.{roomFor, rowsChecked, answerIf, ifAccepted, rowsOf, gradsOf, slipsOf}
 
 -- ---- the list of a call whose room is asked last
 still-refused : (c : Checked) (fits room : Bool) (p : Problem)

@@ -38,6 +38,13 @@ pub bounds-part : (m : Mechanism) → (i : ℕ) → i < m .pairs .count → sumI
 unfolding mechanismBound
 bounds-part m i h = sum-part (pairBound m) i (m .pairs .count) h
 
+-- as many rows as the bounds of the first i pairs
+pub rows-small : (m : Mechanism) → checkOf m ≡ Accepted → (i : ℕ) → i < m .pairs .count → {at : ℕ} → at ≤ sumIn (pairBound m) i 0 → at ≤ 12544
+rows-small m e i h few =
+    let b = bounds-part m i h in
+    let s = bound-small m e in
+    omega (arith, b, s, few)
+
 pub bounds-all : (m : Mechanism) → sumIn (pairBound m) (m .pairs .count) 0 ≡ mechanismBound m
 unfolding mechanismBound
 bounds-all m = mathlib.Core.Path.refl

@@ -1,11 +1,7 @@
-pub mod Along
-pub mod Store
 pub mod Bound
-pub mod Listing
 pub mod Agree
 pub mod Fits
 pub mod AllPairs
 pub mod OfPair
 pub mod Total
 pub mod Answer
-pub mod FromRows

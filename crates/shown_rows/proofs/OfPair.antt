@@ -30,11 +30,14 @@ use Rattle.sides.proofs.Few.{accepted-few-features}
 use Rattle.candidates.specs.Candidates.{Written, candidateRoom, pairCandidates}
 use Rattle.candidates.specs.declared.Candidate.{Candidate}
 use Rattle.candidates.proofs.Wrote.{wrote-same, wrote-near, wrote-named}
-use Rattle.shown_rows.specs.declared.Source.{Source}
-use Rattle.shown_rows.specs.Rows.{Put, decidesIn, alikeIn, placeIn, gradIn, slipIn, pairRows, gradOf, slipOf, shownOf, rowOf, candidateAt, leftOf, rowsOfPair, gradsOfPair, slipsOfPair}
+use Rattle.pair_rows.specs.declared.Source.{Source}
+use Rattle.pair_rows.specs.PairRows.{Put, Room, PutShown, roomBehind, shownIn, decidesIn, alikeIn, placeIn, gradIn, slipIn, leftOf}
+use Rattle.pair_rows.proofs.Behind.{room-there, put-was-there}
+use Rattle.mechanism.proofs.Checks.{accepted-few}
+use Rattle.shown_rows.specs.Rows.{pairRows, gradOf, slipOf, shownOf, rowOf, candidateAt, rowsOfPair, gradsOfPair, slipsOfPair}
 use Rattle.geometry.specs.Geometry.{vectorOf}
 use Rattle.shown_rows.proofs.Agree.{places-same, values-same, grads-same, slips-same}
-use Rattle.shown_rows.proofs.Along.{along-long}
+use Rattle.pair_rows.proofs.Along.{along-long}
 use Rattle.shown_rows.proofs.AllPairs.{flat-long, AllPairs, pairs-more}
 use Rattle.shown_rows.proofs.Fits.{candidates-few, feature-a, feature-b}
 
@@ -107,7 +110,6 @@ module _ (m : Mechanism) (e : checkOf m ≡ Accepted) (i : ℕ) (h : i < m .pair
       let k = all-there .end in
       (omega (arith, c, f), omega (arith, c, k))
 
-  -- what put_shown asks for
   pub there-room : (n ≤ length near) × (n ≤ length named)
   there-room =
       let f = there-few .0 in
@@ -117,11 +119,14 @@ module _ (m : Mechanism) (e : checkOf m ≡ Accepted) (i : ℕ) (h : i < m .pair
       (omega (arith, f, k, x), omega (arith, f, k, y))
 
   pub there-put : (margin : Float) (s : Source) {at r : ℕ} {places₀ places : List (List ℕ)} {values₀ values : List (List Float)} {grad₀ grad slip₀ slip : List Float} → s .pair ≡ i → s .a ≡ bodyOfSide (m .parts) (pairAt (m .pairs) i .a) → s .b ≡ bodyOfSide (m .parts) (pairAt (m .pairs) i .b)
-      → Put (m .bodies .coords) (map (λ j. placeIn (s .pair) (getD named j [])) (shown (gapIn near) (decidesIn named) (alikeIn named) n margin)) (map (λ j. getD near j []) (shown (gapIn near) (decidesIn named) (alikeIn named) n margin)) (flat (λ j. gradIn (m .bodies) q s (getD near j [])) (shown (gapIn near) (decidesIn named) (alikeIn named) n margin)) (flat (λ j. slipIn (m .bodies) q s (getD near j [])) (shown (gapIn near) (decidesIn named) (alikeIn named) n margin)) at r places₀ places values₀ values grad₀ grad slip₀ slip
+      → at ≤ 12544 → Room (m .bodies .coords) at n places₀ values₀ grad₀ slip₀
+      → PutShown (m .bodies) q s near named (cond (roomBehind (m .bodies .coords) at n (length near) (length named) (length places₀) (length values₀) (length grad₀) (length slip₀)) (shownIn near named n margin) []) at r places₀ places values₀ values grad₀ grad slip₀ slip
       → Put (m .bodies .coords) (map placeRow (rowsOfPair m q margin i)) (map valueRow (rowsOfPair m q margin i)) (gradsOfPair m q margin i) (slipsOfPair m q margin i) at r places₀ places values₀ values grad₀ grad slip₀ slip
-  there-put margin s ep ea eb u =
+  there-put margin s {at} {places₀ = places₀} {values₀ = values₀} {grad₀ = grad₀} {slip₀ = slip₀} ep ea eb few room u =
       let f = there-few .0 in
-      pair-put (m .bodies) (m .parts) (m .outlines) q (pairAt (m .pairs) i) i margin all-there (omega (arith, f, ln)) (omega (arith, f, lm)) s ep ea eb u
+      let k = all-there .end in
+      let t = room-there (m .bodies .coords) at n near named places₀ values₀ grad₀ slip₀ (accepted-few m e .coords) (omega (arith, few)) (omega (arith, f, k)) (there-room .0) (there-room .1) room in
+      pair-put (m .bodies) (m .parts) (m .outlines) q (pairAt (m .pairs) i) i margin all-there (omega (arith, f, ln)) (omega (arith, f, lm)) s ep ea eb (put-was-there (m .bodies) q s near named (shownIn near named n margin) t u)
 
 -- the next pair's rows behind those of the pairs before
 pub next-pair : (m : Mechanism) (q : Pose) (margin : Float) {places₀ places places′ : List (List ℕ)} {values₀ values values′ : List (List Float)} {grad₀ grad grad′ slip₀ slip slip′ : List Float} {at r i : ℕ} → i < m .pairs .count

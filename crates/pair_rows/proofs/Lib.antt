@@ -1,0 +1,4 @@
+pub mod Store
+pub mod Along
+pub mod Listing
+pub mod Behind
