@@ -4,12 +4,16 @@ use native.Mathlib.Omega.{arith}
 use native.Mathlib.Numerals.{add-one}
 use native.Mathlib.Nat.{add-zero, add-assoc, mul-le-mul, add-mul}
 use mathlib.Core.Path.{_≡_, refl, sym, ap, subst, _∙_}
+use mathlib.Core.Bool.{Bool, true, false, _&&_, cond}
 use mathlib.Core.List.{List, [], _∷_, _++_, map, map-append, append-nil}
+use lib.Dec.{ltb}
 use lib.Ieee.{Float}
 use lib.ListN.{length, set, take, getD, length-append, length-map, length-take}
 use lib.Seq.{sets, length-sets, take-suc}
+use borrow.Author.Tests.{lt-ltb}
 use Rattle.mechanism.specs.Piece.{letterOf, partOf, segOf}
 use Rattle.laws.specs.Lists.{flat}
+use Rattle.laws.proofs.Choice.{and-yes, cond-yes, cond-no}
 use Rattle.laws.proofs.Lists.{flat-append, flat-short}
 use Rattle.laws.proofs.Writing.{sets-append}
 use Rattle.geometry.specs.Signed.{discOnFace, discOnDisc, centerOnFace, onA, onB}
@@ -23,7 +27,7 @@ use Rattle.sides.specs.declared.PlacedDisc.{PlacedDisc}
 use Rattle.sides.specs.declared.PlacedFace.{PlacedFace}
 use Rattle.sides.specs.declared.SideFeatures.{SideFeatures}
 use Rattle.candidates.specs.declared.Candidate.{Candidate}
-use Rattle.candidates.specs.Candidates.{reading, keptIf, exchanged, realOf, centerReal, readAB, readBA, readDiscs, readCenter, each, facesIn, discsIn, FewPlaced, nearRow, namedRow, Written}
+use Rattle.candidates.specs.Candidates.{reading, readingAt, keptIf, exchanged, realOf, centerReal, readAB, readBA, readDiscs, readCenter, each, facesIn, discsIn, FewPlaced, nearRow, namedRow, Written}
 
 pub wrote-nothing : (at : ℕ) (near : List (List Float)) (named : List (List ℕ)) → Written [] at at near near named named
 wrote-nothing at near named = record { end = sym (add-zero at); nears = refl; names = refl }
@@ -53,15 +57,28 @@ module _ {x : List Candidate} {at i : ℕ} {near₀ near : List (List Float)} {n
   pub wrote-named : Written x at i near₀ near named₀ named → length named ≡ length named₀
   wrote-named w = ap length (w .names) ∙ length-sets named₀ at (map namedRow x)
 
--- ---- a reading is one candidate or none
-pub put-one : (a b : Piece) (who : ℕ) (x : Proximity) {found : MaybeProximity} (at : ℕ) (near : List (List Float)) (named : List (List ℕ)) {l p s l′ p′ s′ : ℕ} → found ≡ SomeProximity x
+-- ---- a reading is one candidate or none, and it is written where the arrays have room for it
+pub put-one : (a b : Piece) (who : ℕ) (x : Proximity) {found : MaybeProximity} (at : ℕ) (near : List (List Float)) (named : List (List ℕ)) {l p s l′ p′ s′ : ℕ} → (ltb at (length near) && ltb at (length named)) ≡ true → found ≡ SomeProximity x
     → l ≡ letterOf a → p ≡ partOf a → s ≡ segOf a → l′ ≡ letterOf b → p′ ≡ partOf b → s′ ≡ segOf b
-    → Written (reading a b who found) at (at + 1) near (set near at (x .gap ∷ x .normal .x ∷ x .normal .y ∷ x .point .x ∷ x .point .y ∷ [])) named (set named at (l ∷ p ∷ s ∷ l′ ∷ p′ ∷ s′ ∷ who ∷ []))
-put-one a b who x at near named e el ep es el′ ep′ es′ =
-    wrote-same (ap (reading a b who) (sym e)) (record { end = refl; nears = refl; names = rw (el, ep, es, el′, ep′, es′) })
+    → Written (readingAt (length near) (length named) at a b who found) at (at + 1) near (set near at (x .gap ∷ x .normal .x ∷ x .normal .y ∷ x .point .x ∷ x .point .y ∷ [])) named (set named at (l ∷ p ∷ s ∷ l′ ∷ p′ ∷ s′ ∷ who ∷ []))
+put-one a b who x {found} at near named h e el ep es el′ ep′ es′ =
+    wrote-same (sym (cond-yes (reading a b who found) [] h ∙ ap (reading a b who) e)) (record { end = refl; nears = refl; names = rw (el, ep, es, el′, ep′, es′) })
 
-pub put-none : (a b : Piece) (who : ℕ) {found : MaybeProximity} (at : ℕ) (near : List (List Float)) (named : List (List ℕ)) → found ≡ NoProximity → Written (reading a b who found) at at near near named named
-put-none a b who at near named e = wrote-same (ap (reading a b who) (sym e)) (wrote-nothing at near named)
+none-either : (b : Bool) → _≡_ {A = List Candidate} (cond b [] []) []
+none-either true = refl
+none-either false = refl
+
+pub put-none : (a b : Piece) (who : ℕ) {found : MaybeProximity} (at : ℕ) (near : List (List Float)) (named : List (List ℕ)) → found ≡ NoProximity → Written (readingAt (length near) (length named) at a b who found) at at near near named named
+put-none a b who at near named e =
+    wrote-same (sym (ap (λ (m : MaybeProximity). readingAt (length near) (length named) at a b who m) e ∙ none-either (ltb at (length near) && ltb at (length named)))) (wrote-nothing at near named)
+
+pub put-full : (a b : Piece) (who : ℕ) (found : MaybeProximity) (at : ℕ) (near : List (List Float)) (named : List (List ℕ)) → (ltb at (length near) && ltb at (length named)) ≡ false → Written (readingAt (length near) (length named) at a b who found) at at near near named named
+put-full a b who found at near named h = wrote-same (sym (cond-no (reading a b who found) [] h)) (wrote-nothing at near named)
+
+-- what is written where the arrays have room, in arrays that have it
+pub wrote-read : {l : List Candidate} {at r : ℕ} {near₀ near : List (List Float)} {named₀ named : List (List ℕ)} → (at < length near₀) × (at < length named₀)
+    → Written (cond (ltb at (length near₀) && ltb at (length named₀)) l []) at r near₀ near named₀ named → Written l at r near₀ near named₀ named
+wrote-read {l} {at} {near₀ = near₀} {named₀ = named₀} h w = wrote-same (cond-yes l [] (and-yes (ltb at (length named₀)) (lt-ltb at (length near₀) (h .0)) ∙ lt-ltb at (length named₀) (h .1))) w
 
 reading-short : (a b : Piece) (who : ℕ) (found : MaybeProximity) → length (reading a b who found) ≤ 1
 reading-short a b who NoProximity = omega arith

@@ -4,7 +4,7 @@ use Prim.Native.Nat.{ℕ, _+_, _*_, _≤_}
 use mathlib.Core.Path.{_≡_}
 use mathlib.Core.Bool.{Bool, true, false, not, _&&_, _||_, cond}
 use mathlib.Core.List.{List, [], _∷_, _++_, map}
-use lib.Dec.{leb}
+use lib.Dec.{leb, ltb}
 use lib.ListN.{length, take}
 use lib.Seq.{sets}
 use lib.Ieee.{Float, le, neg}
@@ -78,6 +78,10 @@ centerIn s q = worldOf (placementAt q (s .body)) (s .center .point)
 abbrev pub reading : Piece → Piece → ℕ → MaybeProximity → List Candidate
 reading a b who NoProximity = []
 reading a b who (SomeProximity x) = record { a = a; b = b; who = who; near = x } ∷ []
+
+-- the candidate of a reading, where number `at` is in both arrays
+abbrev pub readingAt : (near named at : ℕ) → Piece → Piece → ℕ → MaybeProximity → List Candidate
+readingAt near named at a b who found = cond (ltb at near && ltb at named) (reading a b who found) []
 
 abbrev pub keptIf : (Proximity → Bool) → MaybeProximity → MaybeProximity
 keptIf p NoProximity = NoProximity

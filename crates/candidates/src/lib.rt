@@ -9,10 +9,7 @@ ghost use Rattle.geometry.specs.Signed.{discOnFace, centerOnFace, onA, onB};
 ghost use Rattle.mechanism.specs.Check.{FewParts, pairDrawn};
 ghost use Rattle.material.specs.Material.{materialOf};
 ghost use Rattle.drawing.specs.Drawing.{sideMaterial};
-ghost use Rattle.candidates.specs.Candidates.{turnedOf, worldFace, worldDisc, placeFace, placeDisc, facesIn, discsIn, facesAt, discsAt, isDeep, realOf, centerReal, keptIf, exchanged, reading, readAB, readBA, readDiscs, readCenter, each, foundDeep, discDeep, anyDeep, centerDeep, noMaterial, placedCandidates, FewPlaced, pairCandidates, Written, candidateRoom};
-
-pub mod prepared;
-
+ghost use Rattle.candidates.specs.Candidates.{turnedOf, worldFace, worldDisc, placeFace, placeDisc, facesIn, discsIn, facesAt, discsAt, isDeep, realOf, centerReal, keptIf, exchanged, readingAt, readAB, readBA, readDiscs, readCenter, each, foundDeep, discDeep, anyDeep, centerDeep, noMaterial, placedCandidates, FewPlaced, pairCandidates, Written, candidateRoom};
 use drawing::Polygons;
 use drawing::draw;
 use drawing::side_chosen;
@@ -65,7 +62,7 @@ fn turned(place: Placement, d: Dir) -> Dir
     geometry::dir_or(Dir::new(v.x, v.y), d)
 }
 
-fn world_face(place: Placement, f: Face) -> Face
+pub fn world_face(place: Placement, f: Face) -> Face
     ensures { λ r. ⌜ r ≡ worldFace place f ⌝ }
 {
     Face {
@@ -75,7 +72,7 @@ fn world_face(place: Placement, f: Face) -> Face
     }
 }
 
-fn world_disc(place: Placement, d: Disc) -> Disc
+pub fn world_disc(place: Placement, d: Disc) -> Disc
     ensures { λ r. ⌜ r ≡ worldDisc place d ⌝ }
 {
     Disc {
@@ -146,8 +143,8 @@ fn place_discs(s: SideFeatures, place: Placement) -> SideFeatures
 
 // ---- one reading into the lent arrays
 
-// Writes a candidate at `at`, where something is read.
-fn put(
+// Writes a candidate at `at`, where something is read and the arrays have room for it.
+pub fn put_candidate(
     near: &mut [Value],
     named: &mut [Place],
     at: usize,
@@ -156,16 +153,19 @@ fn put(
     who: usize,
     found: MaybeProximity,
 ) -> usize
-    requires { ⌜ (at < length (now near)) × (at < length (now named)) ⌝ }
-    ensures { λ r. ⌜ Written (reading a b who found) at r (now (near .entry)) (now (near .exit)) (now (named .entry)) (now (named .exit)) ⌝ }
+    ensures { λ r. ⌜ Written (readingAt (length (now (near .entry))) (length (now (named .entry))) at a b who found) at r (now (near .entry)) (now (near .exit)) (now (named .entry)) (now (named .exit)) ⌝ }
 {
     match found {
         MaybeProximity::SomeProximity(x) => {
-            let n = x.normal;
-            let p = x.point;
-            near[at] = [x.gap, n.x, n.y, p.x, p.y];
-            named[at] = [letter(a), part(a), seg(a), letter(b), part(b), seg(b), who];
-            at + 1
+            if (at < near.len()) & (at < named.len()) {
+                let n = x.normal;
+                let p = x.point;
+                near[at] = [x.gap, n.x, n.y, p.x, p.y];
+                named[at] = [letter(a), part(a), seg(a), letter(b), part(b), seg(b), who];
+                at + 1
+            } else {
+                at
+            }
         }
         MaybeProximity::NoProximity => at,
     }
@@ -188,7 +188,7 @@ fn real(points: &[Spot], starts: &[usize], n: Polygons, gap: f64, p: Point) -> b
 }
 
 // Side A's disc on side B's face.
-fn on_face_b(points: &[Spot], starts: &[usize], n: Polygons, d: Disc, f: Face) -> MaybeProximity
+pub fn on_face_b(points: &[Spot], starts: &[usize], n: Polygons, d: Disc, f: Face) -> MaybeProximity
     ensures { λ r. ⌜ r ≡ keptIf (λ x. realOf (materialOf (now (points .entry)) (now (starts .entry)) (n .solids) (n .all)) (x .gap) (onA x)) (discOnFace d f) ⌝ }
 {
     let found = geometry::signed::disc_on_face(d, f);
@@ -205,7 +205,7 @@ fn on_face_b(points: &[Spot], starts: &[usize], n: Polygons, d: Disc, f: Face) -
 }
 
 // Side B's disc on side A's face, read from A.
-fn on_face_a(points: &[Spot], starts: &[usize], n: Polygons, d: Disc, f: Face) -> MaybeProximity
+pub fn on_face_a(points: &[Spot], starts: &[usize], n: Polygons, d: Disc, f: Face) -> MaybeProximity
     ensures { λ r. ⌜ r ≡ keptIf (λ x. realOf (materialOf (now (points .entry)) (now (starts .entry)) (n .solids) (n .all)) (x .gap) (onB x)) (exchanged (discOnFace d f)) ⌝ }
 {
     let found = geometry::signed::disc_on_face(d, f);
@@ -245,7 +245,7 @@ fn disc_on_b(
         let f = b.face[k];
         let other = f.piece;
         let found = on_face_b(points, starts, n, disc, f.face);
-        to = put(near, named, to, piece, other, 1, found);
+        to = put_candidate(near, named, to, piece, other, 1, found);
         k += 1;
     }
     to
@@ -299,7 +299,7 @@ fn disc_on_a(
         let f = a.face[k];
         let other = f.piece;
         let found = on_face_a(points, starts, n, disc, f.face);
-        to = put(near, named, to, other, piece, 2, found);
+        to = put_candidate(near, named, to, other, piece, 2, found);
         k += 1;
     }
     to
@@ -350,7 +350,7 @@ fn disc_on_discs(
         let e = b.disc[k];
         let other = e.piece;
         let found = geometry::signed::disc_on_disc(disc, e.disc);
-        to = put(near, named, to, piece, other, 0, found);
+        to = put_candidate(near, named, to, piece, other, 0, found);
         k += 1;
     }
     to
@@ -389,7 +389,13 @@ fn center_real(points: &[Spot], starts: &[usize], n: Polygons, p: Point, gap: f6
     true
 }
 
-fn center_on(points: &[Spot], starts: &[usize], n: Polygons, c: Point, f: Face) -> MaybeProximity
+pub fn center_on(
+    points: &[Spot],
+    starts: &[usize],
+    n: Polygons,
+    c: Point,
+    f: Face,
+) -> MaybeProximity
     ensures { λ r. ⌜ r ≡ keptIf (λ x. centerReal (materialOf (now (points .entry)) (now (starts .entry)) (n .solids) (n .all)) c (x .gap)) (centerOnFace c f) ⌝ }
 {
     let found = geometry::signed::center_on_face(c, f);
@@ -425,7 +431,7 @@ fn center_on_faces(
         let f = a.face[k];
         let other = f.piece;
         let found = center_on(points, starts, n, c, f.face);
-        to = put(near, named, to, other, piece, 2, found);
+        to = put_candidate(near, named, to, other, piece, 2, found);
         k += 1;
     }
     to
@@ -433,7 +439,7 @@ fn center_on_faces(
 
 // ---- whether the material is asked for
 
-fn found_deep(found: MaybeProximity) -> bool
+pub fn found_deep(found: MaybeProximity) -> bool
     ensures { λ r. ⌜ r ≡ foundDeep found ⌝ }
 {
     match found {

@@ -34,7 +34,7 @@ use Rattle.drawing.specs.Drawing.{bodyOfSide, sideMaterial}
 use Rattle.drawing.specs.Prepared.{choiceAt, materialOr}
 use Rattle.drawing.specs.declared.Chosen.{Chosen}
 use Rattle.candidates.specs.Candidates.{featuresCandidates, centerCandidates, candidatesBy, pairCandidates}
-use Rattle.candidates.specs.Prepared.{candidatesFrom, boundIn}
+use Rattle.prepared_candidates.specs.Prepared.{candidatesFrom, boundIn}
 use Rattle.faces.specs.Faces.{sidesOverlap}
 use Rattle.faces.specs.Prepared.{faceOverlapIn}
 use Rattle.faces.proofs.Rows.{overlap-read}

@@ -31,7 +31,7 @@ use Rattle.mechanism.proofs.Checks.{accepted-few, goes-on, goes-on-if}
 use Rattle.sides.specs.Contacts.{pairBound, mechanismBound}
 use Rattle.sides.specs.declared.contacts.PairFeatures.{PairFeatures}
 use Rattle.strips.specs.Strips.{sideAt, rowA, rowB}
-use Rattle.candidates.specs.Prepared.{boundIn}
+use Rattle.prepared_candidates.specs.Prepared.{boundIn}
 use Rattle.candidates.specs.declared.Candidate.{Candidate}
 use Rattle.governing.specs.Governing.{governingOf}
 use Rattle.bearings.specs.Bearing.{rowAt}

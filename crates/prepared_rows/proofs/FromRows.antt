@@ -27,7 +27,7 @@ use Rattle.strips.specs.Strips.{sideAt, rowA, rowB, pairIn, factsFrom}
 use Rattle.strips.specs.declared.SideFacts.{SideFacts}
 use Rattle.drawing.proofs.Lays.{list-length}
 use Rattle.candidates.specs.Candidates.{Written, featuresCandidates, centerCandidates}
-use Rattle.candidates.specs.Prepared.{boundIn, roomForPair, candidatesFrom, materialOfSide}
+use Rattle.prepared_candidates.specs.Prepared.{boundIn, roomForPair, candidatesFrom, materialOfSide}
 use Rattle.candidates.specs.declared.Candidate.{Candidate}
 use Rattle.candidates.proofs.Wrote.{wrote-same, wrote-near, wrote-named}
 use Rattle.shown_rows.specs.declared.RowsAnswer.{RowsAnswer}

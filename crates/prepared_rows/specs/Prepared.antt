@@ -14,7 +14,7 @@ use Rattle.mechanism.specs.declared.Problem.the-variants.{LimitPassed, PoseNotM
 use Rattle.mechanism.specs.declared.pose.Pose.{Pose}
 use Rattle.mechanism.specs.declared.rows.Row.{Row}
 use Rattle.strips.specs.Strips.{sideAt, rowA, rowB, pairIn}
-use Rattle.candidates.specs.Prepared.{boundIn, candidatesFrom}
+use Rattle.prepared_candidates.specs.Prepared.{boundIn, candidatesFrom}
 use Rattle.shown_rows.specs.Rows.{candidateAt, shownOf, rowOf, gradOf, slipOf}
 
 module _ (faces : List (List Float)) (fnames : List (List ℕ)) (discs : List (List Float)) (dnames : List (List ℕ)) (sides : List (List ℕ)) (centers : List (List Float)) (choices : List (List ℕ)) (drawn : List (List Float)) (parts : List (List ℕ)) where

@@ -5,7 +5,7 @@ use lib.ListN.{getD}
 use Rattle.material.specs.Material.{materialOf}
 use Rattle.candidates.specs.Candidates.{readAB}
 use Rattle.candidates.proofs.Sides.{faces-long, noFace}
-use Rattle.candidates.proofs.Wrote.{ab-short, wrote-near, wrote-named, wrote-ab, Wrote, wrote-start, wrote-more, wrote-end, wrote-one}
+use Rattle.candidates.proofs.Wrote.{ab-short, wrote-read, wrote-near, wrote-named, wrote-ab, Wrote, wrote-start, wrote-more, wrote-end, wrote-one}
 use Rattle.candidates.proofs.disc_on_b.Statement.{statement}
 use Rattle.candidates.proofs.disc_on_b.Tie as tie
 
@@ -27,10 +27,8 @@ element-copy-out-f c = let p = c .before .before .before .before .pre .0 in omeg
 on-face-b-requires : tie.Need-on-face-b-requires Inv-loop μ-loop
 on-face-b-requires c κs = search needs
 
-put-requires : tie.Need-put-requires Inv-loop μ-loop
-put-requires c κs =
-    let s = c .before .before .before .before .before .before .before .before in
-    wrote-one (c .before .before .before .before .before .loop .inv) (ab-short (materialOf (s .args .points .now) (s .args .starts .now) (s .args .n .solids) (s .args .n .all)) (s .args .d)) (c .before .before .before .before .loop-test .taken) (s .pre .1) (s .pre .2)
+put-candidate-requires : tie.Need-put-candidate-requires Inv-loop μ-loop
+put-candidate-requires c κs = search needs
 
 add-k : tie.Need-add-k Inv-loop μ-loop
 add-k c = let p = c .before .before .before .before .before .before .before .before .before .before .before .pre .0 in omega arith
@@ -44,7 +42,8 @@ loop-again c =
     let loop = c .before .before .before .before .before .before .before .before .loop in
     let z = faces-long (s .args .t5) _ (s .good .1 .1 .1 .1 .0) in
     let p = s .pre .0 in
-    wrote-more (loop .inv) noFace (omega arith) (c .before .before .before .before .before .before .before .loop-test .taken) (wrote-ab (materialOf (s .args .points .now) (s .args .starts .now) (s .args .n .solids) (s .args .n .all)) (s .args .d) (getD (s .args .t5 .face) (loop .k) noFace) (c .before .before .before .before .before .on-face-b .ensures) (c .before .before .put .ensures))
+    let room = wrote-one (loop .inv) (ab-short (materialOf (s .args .points .now) (s .args .starts .now) (s .args .n .solids) (s .args .n .all)) (s .args .d)) (c .before .before .before .before .before .before .before .loop-test .taken) (s .pre .1) (s .pre .2) in
+    wrote-more (loop .inv) noFace (omega arith) (c .before .before .before .before .before .before .before .loop-test .taken) (wrote-ab (materialOf (s .args .points .now) (s .args .starts .now) (s .args .n .solids) (s .args .n .all)) (s .args .d) (getD (s .args .t5 .face) (loop .k) noFace) (c .before .before .before .before .before .on-face-b .ensures) (wrote-read room (c .before .before .put-candidate .ensures)))
 
 same-length : tie.Need-same-length Inv-loop μ-loop
 same-length c = wrote-near (c .before .loop .inv .done)
@@ -65,7 +64,7 @@ disc-on-b-spec =
     mul-f
     element-copy-out-f
     on-face-b-requires
-    put-requires
+    put-candidate-requires
     add-k
     loop-less
     loop-again

@@ -4,7 +4,7 @@ use Prim.Native.Nat.{_-_}
 use lib.ListN.{getD}
 use Rattle.candidates.specs.Candidates.{readDiscs}
 use Rattle.candidates.proofs.Sides.{discs-long, noDisc}
-use Rattle.candidates.proofs.Wrote.{discs-short, wrote-near, wrote-named, wrote-discs, Wrote, wrote-start, wrote-more, wrote-end, wrote-one}
+use Rattle.candidates.proofs.Wrote.{discs-short, wrote-read, wrote-near, wrote-named, wrote-discs, Wrote, wrote-start, wrote-more, wrote-end, wrote-one}
 use Rattle.candidates.proofs.disc_on_discs.Statement.{statement}
 use Rattle.candidates.proofs.disc_on_discs.Tie as tie
 
@@ -26,10 +26,8 @@ element-copy-out-e c = let p = c .before .before .before .pre .0 in omega arith
 disc-on-disc-requires : tie.Need-disc-on-disc-requires Inv-loop μ-loop
 disc-on-disc-requires c κs = search needs
 
-put-requires : tie.Need-put-requires Inv-loop μ-loop
-put-requires c κs =
-    let s = c .before .before .before .before .before .before .before in
-    wrote-one (c .before .before .before .before .before .loop .inv) (discs-short (s .args .d)) (c .before .before .before .before .loop-test .taken) (s .pre .1) (s .pre .2)
+put-candidate-requires : tie.Need-put-candidate-requires Inv-loop μ-loop
+put-candidate-requires c κs = search needs
 
 add-k : tie.Need-add-k Inv-loop μ-loop
 add-k c = let p = c .before .before .before .before .before .before .before .before .before .before .pre .0 in omega arith
@@ -43,7 +41,8 @@ loop-again c =
     let loop = c .before .before .before .before .before .before .before .before .loop in
     let z = discs-long (s .args .t5) _ (s .good .1 .1 .1 .1 .0) in
     let p = s .pre .0 in
-    wrote-more (loop .inv) noDisc (omega arith) (c .before .before .before .before .before .before .before .loop-test .taken) (wrote-discs (s .args .d) (getD (s .args .t5 .disc) (loop .k) noDisc) (c .before .before .before .before .before .disc-on-disc .ensures) (c .before .before .put .ensures))
+    let room = wrote-one (loop .inv) (discs-short (s .args .d)) (c .before .before .before .before .before .before .before .loop-test .taken) (s .pre .1) (s .pre .2) in
+    wrote-more (loop .inv) noDisc (omega arith) (c .before .before .before .before .before .before .before .loop-test .taken) (wrote-discs (s .args .d) (getD (s .args .t5 .disc) (loop .k) noDisc) (c .before .before .before .before .before .disc-on-disc .ensures) (wrote-read room (c .before .before .put-candidate .ensures)))
 
 same-length : tie.Need-same-length Inv-loop μ-loop
 same-length c = wrote-near (c .before .loop .inv .done)
@@ -64,7 +63,7 @@ disc-on-discs-spec =
     mul-e
     element-copy-out-e
     disc-on-disc-requires
-    put-requires
+    put-candidate-requires
     add-k
     loop-less
     loop-again

@@ -5,7 +5,7 @@ use mathlib.Core.Path.{_≡_, refl, ap, _∙_}
 use Rattle.laws.specs.Loops.{foldIn}
 use Rattle.laws.proofs.Sums.{sum-more}
 use Rattle.mechanism.specs.Description.{sumIn}
-use Rattle.candidates.specs.Prepared.{boundIn}
+use Rattle.prepared_candidates.specs.Prepared.{boundIn}
 use Rattle.prepared_rows.proofs.bounds_in.Statement.{statement}
 use Rattle.prepared_rows.proofs.bounds_in.Tie as tie
 

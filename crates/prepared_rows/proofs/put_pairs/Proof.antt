@@ -1,7 +1,7 @@
 use native.Mathlib.Omega.{arith}
 use Prim.Native.Nat.{_+_, _-_}
 use Rattle.laws.proofs.Sums.{sum-more, sum-mono}
-use Rattle.candidates.specs.Prepared.{boundIn}
+use Rattle.prepared_candidates.specs.Prepared.{boundIn}
 use Rattle.prepared_rows.specs.Prepared.{rowsFrom, gradsFrom, slipsFrom, boundsIn}
 use Rattle.shown_rows.proofs.AllPairs.{AllPairs, pairs-start, pairs-room, pairs-more, pairs-end}
 use Rattle.prepared_rows.proofs.FromRows.{rows-few, grads-long, slips-long}

@@ -1,0 +1,4 @@
+pub mod Listed
+pub mod Placed
+pub mod Lent
+pub mod Pairs
