@@ -14,8 +14,9 @@ use Rattle.material.specs.Material.{Material}
 use Rattle.sides.specs.declared.PlacedDisc.{PlacedDisc}
 use Rattle.sides.specs.declared.PlacedFace.{PlacedFace}
 use Rattle.sides.specs.declared.SideFeatures.{SideFeatures}
-use Rattle.candidates.specs.declared.Candidate.{Candidate}
-use Rattle.candidates.specs.Candidates.{reading, keptIf, exchanged, isDeep, realOf, centerReal, foundDeep, discDeep, anyDeep, centerDeep, readAB, readBA, readDiscs, readCenter, each, facesIn, discsIn, candidatesIn, placedCandidates}
+use Rattle.proximities.specs.declared.Candidate.{Candidate}
+use Rattle.proximities.specs.Proximities.{reading, keptIf, exchanged, isDeep, realOf, centerReal, foundDeep, readAB, readBA, readDiscs, readCenter, each}
+use Rattle.candidates.specs.Candidates.{discDeep, anyDeep, centerDeep, facesIn, discsIn, candidatesIn, placedCandidates}
 
 -- two readings that agree wherever none passes
 flat-same : {A : Type 0} (p : A → Bool) (f g : A → List Candidate) → ((x : A) → p x ≡ false → f x ≡ g x) → (l : List A) → any p l ≡ false → flat f l ≡ flat g l

@@ -1,4 +1,4 @@
-pub mod Wrote
+mod Rooms
 pub mod Deep
 pub mod Sides
 pub mod Lent

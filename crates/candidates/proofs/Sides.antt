@@ -40,7 +40,8 @@ use Rattle.sides.proofs.Sizes.{drawn-runs}
 use Rattle.sides.proofs.PlacedDisc as D
 use Rattle.sides.proofs.PlacedFace as F
 use Rattle.sides.proofs.SideFeatures as S
-use Rattle.candidates.specs.Candidates.{facesIn, discsIn, facesAt, discsAt, centerIn, readCenter, candidatesIn, featuresCandidates, centerCandidates, candidatesBy, pairCandidates, placedCandidates, FewPlaced, candidateRoom}
+use Rattle.proximities.specs.Proximities.{readCenter}
+use Rattle.candidates.specs.Candidates.{facesIn, discsIn, facesAt, discsAt, centerIn, candidatesIn, featuresCandidates, centerCandidates, candidatesBy, pairCandidates, placedCandidates, FewPlaced, candidateRoom}
 
 pub faces-long : (s : SideFeatures) (vs : List Val) → Is S.the-row s vs → length (s .face) ≡ 12
 faces-long s vs p = array-length F.the-field 12 (s .face) _ (p .1 .1 .1 .1 .0)

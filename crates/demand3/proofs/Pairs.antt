@@ -13,7 +13,7 @@ use Rattle.mechanism.specs.declared.Mechanism.{Mechanism}
 use Rattle.mechanism.specs.declared.pose.Pose.{Pose}
 use Rattle.showing.specs.Showing.{shows}
 use Rattle.showing.proofs.Demand3.{Demand3, Instead, demand-3}
-use Rattle.candidates.specs.declared.Candidate.{Candidate}
+use Rattle.proximities.specs.declared.Candidate.{Candidate}
 use Rattle.shown_rows.specs.Rows.{candidateAt, gapAt, decides, alike, shownOf, rowOf, pairRows, rowsOfPair}
 use Rattle.shown_rows.proofs.OfPair.{rows-few}
 use Rattle.demand3.specs.Demand3.{candidatesOf, InPlace, OfPair}

@@ -13,8 +13,8 @@ use Rattle.geometry.specs.declared.signed.MaybeProximity.the-variants.{SomeProx
 use Rattle.mechanism.specs.Piece.{letterOf, partOf, segOf, samePiece}
 use Rattle.mechanism.specs.declared.features.Piece.{Piece}
 use Rattle.showing.specs.Showing.{Alike}
-use Rattle.candidates.specs.Candidates.{reading, keptIf, exchanged, realOf, centerReal, readAB, readBA, readDiscs, readCenter}
-use Rattle.candidates.specs.declared.Candidate.{Candidate}
+use Rattle.proximities.specs.Proximities.{reading, keptIf, exchanged, realOf, centerReal, readAB, readBA, readDiscs, readCenter}
+use Rattle.proximities.specs.declared.Candidate.{Candidate}
 use Rattle.shown_rows.specs.Rows.{candidateAt, decides, deciding, alike}
 use Rattle.demand3.specs.Demand3.{AtMostOne}
 

@@ -26,8 +26,9 @@ use Rattle.sides.specs.Contacts.{pairBound, mechanismBound}
 use Rattle.sides.specs.declared.PlacedDisc.{PlacedDisc}
 use Rattle.sides.specs.declared.PlacedFace.{PlacedFace}
 use Rattle.showing.specs.Showing.{deepF, within}
-use Rattle.candidates.specs.Candidates.{readAB, readBA, readDiscs, readCenter, pairCandidates}
-use Rattle.candidates.specs.declared.Candidate.{Candidate}
+use Rattle.proximities.specs.Proximities.{readAB, readBA, readDiscs, readCenter}
+use Rattle.proximities.specs.declared.Candidate.{Candidate}
+use Rattle.candidates.specs.Candidates.{pairCandidates}
 use Rattle.shown_rows.specs.Rows.{candidateAt, gapAt, decides, alike, shownOf, rowOf, gradOf, slipOf, featuresOfPair, rowsOfPair, rowsOf, gradsOf, slipsOf}
 use Rattle.governing.specs.Governing.{governingOf, Governing}
 use Rattle.governing.specs.declared.MaybeRow.the-variants.{SomeRow}

@@ -32,7 +32,7 @@ use Rattle.sides.specs.Contacts.{pairBound, mechanismBound}
 use Rattle.sides.specs.declared.contacts.PairFeatures.{PairFeatures}
 use Rattle.strips.specs.Strips.{sideAt, rowA, rowB}
 use Rattle.prepared_candidates.specs.Prepared.{boundIn}
-use Rattle.candidates.specs.declared.Candidate.{Candidate}
+use Rattle.proximities.specs.declared.Candidate.{Candidate}
 use Rattle.governing.specs.Governing.{governingOf}
 use Rattle.bearings.specs.Bearing.{rowAt}
 use Rattle.shown_rows.specs.Rows.{candidateAt, shownOf, rowOf, gradOf, slipOf, pairRows, rowsOfPair, gradsOfPair, slipsOfPair, rowsOf, gradsOf, slipsOf, rowsChecked}

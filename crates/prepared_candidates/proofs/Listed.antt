@@ -10,9 +10,9 @@ use lib.ListN.{length}
 use Rattle.laws.specs.Lists.{listIn, flat}
 use Rattle.laws.proofs.Lists.{flat-append, flat-short}
 use Rattle.drawing.proofs.Lays.{list-length}
-use Rattle.candidates.specs.declared.Candidate.{Candidate}
-use Rattle.candidates.specs.Candidates.{each, Written}
-use Rattle.candidates.proofs.Wrote.{one-more, wrote-nothing, wrote-same, wrote-both, wrote-near, wrote-named}
+use Rattle.proximities.specs.declared.Candidate.{Candidate}
+use Rattle.proximities.specs.Proximities.{each, Written}
+use Rattle.proximities.proofs.Wrote.{one-more, wrote-nothing, wrote-same, wrote-both, wrote-near, wrote-named}
 
 -- the last of the elements
 list-last : {A : Type 0} (f : ℕ → A) (k j : ℕ) → listIn f (suc k) j ≡ listIn f k j ++ (f (j + k) ∷ [])

@@ -24,8 +24,9 @@ use Rattle.strips.proofs.Bounds.{side-small}
 use Rattle.drawing.specs.Prepared.{choiceAt, materialOr}
 use Rattle.drawing.specs.declared.Chosen.{Chosen}
 use Rattle.drawing.proofs.Lays.{list-length}
-use Rattle.candidates.specs.declared.Candidate.{Candidate}
-use Rattle.candidates.specs.Candidates.{placeFace, placeDisc, facesIn, discsIn, readCenter, candidatesIn}
+use Rattle.proximities.specs.declared.Candidate.{Candidate}
+use Rattle.proximities.specs.Proximities.{readCenter}
+use Rattle.candidates.specs.Candidates.{placeFace, placeDisc, facesIn, discsIn, candidatesIn}
 use Rattle.prepared_candidates.specs.Prepared.{placedFaces, placedDiscs, candidatesFrom, boundIn}
 use Rattle.prepared_candidates.proofs.Placed.{candidates-alike}
 

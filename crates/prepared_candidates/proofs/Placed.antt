@@ -24,7 +24,8 @@ use Rattle.mechanism.specs.declared.pose.Placement.{Placement}
 use Rattle.material.specs.Material.{Material}
 use Rattle.strips.specs.Strips.{faceAt, discAt, pieceAt, faceFrom, discFrom, faceRow, discRow, facesFrom, discsFrom}
 use Rattle.drawing.proofs.Lays.{list-length}
-use Rattle.candidates.specs.Candidates.{worldFace, worldDisc, placeFace, placeDisc, foundDeep, discDeep, anyDeep, centerDeep, candidatesIn}
+use Rattle.proximities.specs.Proximities.{worldFace, worldDisc, foundDeep}
+use Rattle.candidates.specs.Candidates.{placeFace, placeDisc, discDeep, anyDeep, centerDeep, candidatesIn}
 
 -- ---- one row and its piece
 pub face-named : (faces : List (List Float)) (names : List (List ℕ)) (from k : ℕ) {piece : Piece} {face : Face} → piece ≡ pieceAt names (from + k) → face ≡ faceAt faces k

@@ -12,8 +12,8 @@ use Rattle.material.specs.Material.{Material}
 use Rattle.drawing.specs.Prepared.{choiceAt, materialOr}
 use Rattle.strips.specs.Strips.{sideAt, facesOfSide, discsOfSide, rowA, rowB, rowOfMaterial, pairIn}
 use Rattle.strips.specs.declared.SideFacts.{SideFacts}
+use Rattle.proximities.specs.declared.Candidate.{Candidate}
 use Rattle.candidates.specs.Candidates.{placeFace, placeDisc, featuresCandidates, centerCandidates}
-use Rattle.candidates.specs.declared.Candidate.{Candidate}
 
 -- the material of a side
 abbrev pub materialOfSide : List (List Float) → List (List ℕ) → List (List ℕ) → Pose → ℕ → Material

@@ -26,10 +26,11 @@ use Rattle.sides.specs.declared.contacts.PairFeatures.{PairFeatures}
 use Rattle.strips.specs.Strips.{sideAt, rowA, rowB, pairIn, factsFrom}
 use Rattle.strips.specs.declared.SideFacts.{SideFacts}
 use Rattle.drawing.proofs.Lays.{list-length}
-use Rattle.candidates.specs.Candidates.{Written, featuresCandidates, centerCandidates}
+use Rattle.proximities.specs.Proximities.{Written}
+use Rattle.candidates.specs.Candidates.{featuresCandidates, centerCandidates}
 use Rattle.prepared_candidates.specs.Prepared.{boundIn, roomForPair, candidatesFrom, materialOfSide}
-use Rattle.candidates.specs.declared.Candidate.{Candidate}
-use Rattle.candidates.proofs.Wrote.{wrote-same, wrote-near, wrote-named}
+use Rattle.proximities.specs.declared.Candidate.{Candidate}
+use Rattle.proximities.proofs.Wrote.{wrote-same, wrote-near, wrote-named}
 use Rattle.shown_rows.specs.declared.RowsAnswer.{RowsAnswer}
 use Rattle.pair_rows.specs.declared.Source.{Source}
 use Rattle.pair_rows.proofs.Behind.{room-there, put-was-there}

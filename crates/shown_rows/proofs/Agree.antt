@@ -20,8 +20,8 @@ use Rattle.mechanism.specs.declared.features.Piece.{Piece}
 use Rattle.mechanism.specs.declared.pose.Pose.{Pose}
 use Rattle.showing.specs.Showing.{deepF, within, hides, shows, shown}
 use Rattle.sides.specs.declared.contacts.PairFeatures.{PairFeatures}
-use Rattle.candidates.specs.Candidates.{nearRow, namedRow, Written}
-use Rattle.candidates.specs.declared.Candidate.{Candidate}
+use Rattle.proximities.specs.Proximities.{nearRow, namedRow, Written}
+use Rattle.proximities.specs.declared.Candidate.{Candidate}
 use Rattle.pair_rows.specs.declared.Source.{Source}
 use Rattle.pair_rows.specs.PairRows.{decidesIn, alikeIn, alikeRows, placeIn, gradIn, slipIn}
 use Rattle.shown_rows.specs.Rows.{noCandidate, candidateAt, gapAt, decides, deciding, alike, shownOf, rowOf, gradOf, slipOf}

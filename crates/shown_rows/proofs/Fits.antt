@@ -33,9 +33,10 @@ use Rattle.sides.specs.Contacts.{pairFeatures}
 use Rattle.sides.specs.Features.{sideOf}
 use Rattle.sides.specs.declared.contacts.PairFeatures.{PairFeatures}
 use Rattle.material.specs.Material.{Material}
-use Rattle.candidates.specs.Candidates.{readAB, readBA, readDiscs, readCenter, each, facesAt, discsAt, centerIn, candidatesBy, pairCandidates, featuresCandidates, centerCandidates}
-use Rattle.candidates.specs.declared.Candidate.{Candidate}
-use Rattle.candidates.proofs.Wrote.{ab-short, ba-short, discs-short, center-short}
+use Rattle.proximities.specs.Proximities.{readAB, readBA, readDiscs, readCenter, each}
+use Rattle.proximities.specs.declared.Candidate.{Candidate}
+use Rattle.proximities.proofs.Wrote.{ab-short, ba-short, discs-short, center-short}
+use Rattle.candidates.specs.Candidates.{facesAt, discsAt, centerIn, candidatesBy, pairCandidates, featuresCandidates, centerCandidates}
 
 -- ---- check 6: the body of each part
 passed : (c next : Checked) → andThen c next ≡ Accepted → (c ≡ Accepted) × (next ≡ Accepted)

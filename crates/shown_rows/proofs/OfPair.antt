@@ -27,9 +27,10 @@ use Rattle.showing.specs.Showing.{shown}
 use Rattle.sides.specs.Bounds.{rowBound}
 use Rattle.sides.specs.Contacts.{pairFeatures, pairBound}
 use Rattle.sides.proofs.Few.{accepted-few-features}
-use Rattle.candidates.specs.Candidates.{Written, candidateRoom, pairCandidates}
-use Rattle.candidates.specs.declared.Candidate.{Candidate}
-use Rattle.candidates.proofs.Wrote.{wrote-same, wrote-near, wrote-named}
+use Rattle.proximities.specs.Proximities.{Written}
+use Rattle.proximities.specs.declared.Candidate.{Candidate}
+use Rattle.proximities.proofs.Wrote.{wrote-same, wrote-near, wrote-named}
+use Rattle.candidates.specs.Candidates.{candidateRoom, pairCandidates}
 use Rattle.pair_rows.specs.declared.Source.{Source}
 use Rattle.pair_rows.specs.PairRows.{Put, Room, PutShown, roomBehind, shownIn, decidesIn, alikeIn, placeIn, gradIn, slipIn, leftOf}
 use Rattle.pair_rows.proofs.Behind.{room-there, put-was-there}

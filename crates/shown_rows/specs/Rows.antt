@@ -26,8 +26,8 @@ use Rattle.sides.specs.Contacts.{pairFeatures, mechanismBound}
 use Rattle.sides.specs.declared.contacts.PairFeatures.{PairFeatures}
 use Rattle.showing.specs.Showing.{shown}
 use Rattle.pair_rows.specs.PairRows.{alongOf, leftOf}
+use Rattle.proximities.specs.declared.Candidate.{Candidate}
 use Rattle.candidates.specs.Candidates.{pairCandidates}
-use Rattle.candidates.specs.declared.Candidate.{Candidate}
 use Rattle.shown_rows.specs.declared.RowsAnswer.{RowsAnswer}
 
 -- ---- candidates by number

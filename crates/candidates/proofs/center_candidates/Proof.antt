@@ -1,9 +1,9 @@
 use mathlib.Core.Path.{sym, _∙_}
 use mathlib.Core.Bool.{false}
 use Rattle.drawing.specs.Drawing.{sideMaterial}
+use Rattle.proximities.proofs.Wrote.{wrote-same}
 use Rattle.candidates.specs.Candidates.{noMaterial, facesIn}
 use Rattle.candidates.proofs.Deep.{flat-center-same}
-use Rattle.candidates.proofs.Wrote.{wrote-same}
 use borrow.Author.Needs.{needs}
 use Rattle.candidates.proofs.center_candidates.Statement.{statement}
 use Rattle.candidates.proofs.center_candidates.Tie as tie

@@ -3,9 +3,9 @@ use native.Mathlib.Omega.{arith}
 use Prim.Native.Nat.{_-_}
 use lib.ListN.{getD}
 use Rattle.material.specs.Material.{materialOf}
-use Rattle.candidates.specs.Candidates.{readCenter}
+use Rattle.proximities.specs.Proximities.{readCenter}
+use Rattle.proximities.proofs.Wrote.{center-short, wrote-read, wrote-near, wrote-named, wrote-center, Wrote, wrote-start, wrote-more, wrote-end, wrote-one}
 use Rattle.candidates.proofs.Sides.{faces-long, noFace}
-use Rattle.candidates.proofs.Wrote.{center-short, wrote-read, wrote-near, wrote-named, wrote-center, Wrote, wrote-start, wrote-more, wrote-end, wrote-one}
 use Rattle.candidates.proofs.center_on_faces.Statement.{statement}
 use Rattle.candidates.proofs.center_on_faces.Tie as tie
 

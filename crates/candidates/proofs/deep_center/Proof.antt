@@ -2,8 +2,9 @@ use native.Mathlib.Omega.{arith}
 use mathlib.Core.Path.{ap}
 use mathlib.Core.Bool.{false}
 use Rattle.laws.specs.Lists.{flat}
-use Rattle.candidates.specs.Candidates.{readCenter, facesIn}
-use Rattle.candidates.proofs.Wrote.{wrote-same}
+use Rattle.proximities.specs.Proximities.{readCenter}
+use Rattle.proximities.proofs.Wrote.{wrote-same}
+use Rattle.candidates.specs.Candidates.{facesIn}
 use Rattle.candidates.proofs.Drawn.{noPoints, noStarts, points-long, starts-long, points-fit, points-lent, starts-fit, starts-lent, all-few, drawn-side}
 use borrow.Author.Needs.{needs}
 use Rattle.candidates.proofs.deep_center.Statement.{statement}

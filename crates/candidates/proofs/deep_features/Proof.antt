@@ -1,8 +1,10 @@
 use native.Mathlib.Omega.{arith}
 use mathlib.Core.Path.{ap}
 use mathlib.Core.Bool.{true}
-use Rattle.candidates.specs.Candidates.{readAB, readBA, each, facesIn, discsIn}
-use Rattle.candidates.proofs.Wrote.{wrote-same, wrote-both, first-room, second-room, third-room}
+use Rattle.proximities.specs.Proximities.{readAB, readBA, each}
+use Rattle.proximities.proofs.Wrote.{wrote-same, wrote-both}
+use Rattle.candidates.specs.Candidates.{facesIn, discsIn}
+use Rattle.candidates.proofs.Rooms.{first-room, second-room, third-room}
 use Rattle.candidates.proofs.Drawn.{noPoints, noStarts, lent, points-long, starts-long, still-long, points-fit, points-lent, starts-fit, starts-lent, all-few, drawn-side}
 use borrow.Author.Needs.{needs}
 use Rattle.candidates.proofs.deep_features.Statement.{statement}

@@ -3,9 +3,9 @@ use native.Mathlib.Omega.{arith}
 use Prim.Native.Nat.{_-_}
 use lib.ListN.{getD}
 use Rattle.material.specs.Material.{materialOf}
-use Rattle.candidates.specs.Candidates.{readBA}
+use Rattle.proximities.specs.Proximities.{readBA}
+use Rattle.proximities.proofs.Wrote.{ba-short, wrote-read, wrote-near, wrote-named, wrote-ba, Wrote, wrote-start, wrote-more, wrote-end, wrote-one}
 use Rattle.candidates.proofs.Sides.{faces-long, noFace}
-use Rattle.candidates.proofs.Wrote.{ba-short, wrote-read, wrote-near, wrote-named, wrote-ba, Wrote, wrote-start, wrote-more, wrote-end, wrote-one}
 use Rattle.candidates.proofs.disc_on_a.Statement.{statement}
 use Rattle.candidates.proofs.disc_on_a.Tie as tie
 

@@ -2,9 +2,9 @@ use borrow.Author.Needs.{needs}
 use native.Mathlib.Omega.{arith}
 use Prim.Native.Nat.{_-_}
 use lib.ListN.{getD}
-use Rattle.candidates.specs.Candidates.{readDiscs}
+use Rattle.proximities.specs.Proximities.{readDiscs}
+use Rattle.proximities.proofs.Wrote.{discs-short, wrote-read, wrote-near, wrote-named, wrote-discs, Wrote, wrote-start, wrote-more, wrote-end, wrote-one}
 use Rattle.candidates.proofs.Sides.{discs-long, noDisc}
-use Rattle.candidates.proofs.Wrote.{discs-short, wrote-read, wrote-near, wrote-named, wrote-discs, Wrote, wrote-start, wrote-more, wrote-end, wrote-one}
 use Rattle.candidates.proofs.disc_on_discs.Statement.{statement}
 use Rattle.candidates.proofs.disc_on_discs.Tie as tie
 

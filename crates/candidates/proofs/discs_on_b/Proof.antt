@@ -2,9 +2,10 @@ use native.Mathlib.Omega.{arith}
 use Prim.Native.Nat.{_-_}
 use Rattle.laws.specs.Lists.{flat}
 use Rattle.material.specs.Material.{materialOf}
-use Rattle.candidates.specs.Candidates.{readAB, facesIn}
+use Rattle.proximities.specs.Proximities.{readAB}
+use Rattle.proximities.proofs.Wrote.{ab-short, first-few, wrote-near, wrote-named, Wrote, wrote-start, wrote-more, wrote-end, wrote-room}
+use Rattle.candidates.specs.Candidates.{facesIn}
 use Rattle.candidates.proofs.Sides.{discs-long, noDisc}
-use Rattle.candidates.proofs.Wrote.{ab-short, first-few, wrote-near, wrote-named, Wrote, wrote-start, wrote-more, wrote-end, wrote-room}
 use Rattle.candidates.proofs.discs_on_b.Statement.{statement}
 use Rattle.candidates.proofs.discs_on_b.Tie as tie
 

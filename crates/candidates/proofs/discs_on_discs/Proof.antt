@@ -1,9 +1,10 @@
 use native.Mathlib.Omega.{arith}
 use Prim.Native.Nat.{_-_}
 use Rattle.laws.specs.Lists.{flat}
-use Rattle.candidates.specs.Candidates.{readDiscs, discsIn}
+use Rattle.proximities.specs.Proximities.{readDiscs}
+use Rattle.proximities.proofs.Wrote.{discs-short, first-few, wrote-near, wrote-named, Wrote, wrote-start, wrote-more, wrote-end, wrote-room}
+use Rattle.candidates.specs.Candidates.{discsIn}
 use Rattle.candidates.proofs.Sides.{discs-long, noDisc}
-use Rattle.candidates.proofs.Wrote.{discs-short, first-few, wrote-near, wrote-named, Wrote, wrote-start, wrote-more, wrote-end, wrote-room}
 use Rattle.candidates.proofs.discs_on_discs.Statement.{statement}
 use Rattle.candidates.proofs.discs_on_discs.Tie as tie
 

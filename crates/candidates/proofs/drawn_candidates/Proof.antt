@@ -2,8 +2,8 @@ use native.Mathlib.Omega.{arith}
 use Prim.Native.Nat.{_≤_}
 use mathlib.Core.Path.{ap, _∙_}
 use Rattle.mechanism.specs.Pose.{worldOf}
+use Rattle.proximities.proofs.Wrote.{wrote-same}
 use Rattle.candidates.proofs.Sides.{read-few, few-placed, features-read, center-read}
-use Rattle.candidates.proofs.Wrote.{wrote-same}
 use borrow.Author.Needs.{needs}
 use Rattle.candidates.proofs.drawn_candidates.Statement.{statement}
 use Rattle.candidates.proofs.drawn_candidates.Tie as tie

@@ -2,9 +2,9 @@ use mathlib.Core.Path.{sym, _∙_}
 use mathlib.Core.Bool.{true}
 use Rattle.laws.proofs.Choice.{neither}
 use Rattle.drawing.specs.Drawing.{sideMaterial}
+use Rattle.proximities.proofs.Wrote.{wrote-same}
 use Rattle.candidates.specs.Candidates.{noMaterial}
 use Rattle.candidates.proofs.Deep.{placed-same}
-use Rattle.candidates.proofs.Wrote.{wrote-same}
 use borrow.Author.Needs.{needs}
 use Rattle.candidates.proofs.features_candidates.Statement.{statement}
 use Rattle.candidates.proofs.features_candidates.Tie as tie

@@ -1,8 +1,8 @@
 use mathlib.Core.Path.{sym, _∙_}
 use lib.ListN.{length}
 use Rattle.laws.proofs.Choice.{cond-yes, cond-no}
+use Rattle.proximities.proofs.Wrote.{wrote-nothing, wrote-same}
 use Rattle.candidates.proofs.Sides.{has-room}
-use Rattle.candidates.proofs.Wrote.{wrote-nothing, wrote-same}
 use borrow.Author.Needs.{needs}
 use Rattle.candidates.proofs.pair_candidates.Statement.{statement}
 use Rattle.candidates.proofs.pair_candidates.Tie as tie

@@ -1,6 +1,7 @@
 use Rattle.laws.specs.Lists.{listIn}
+use Rattle.proximities.proofs.Wrote.{wrote-both}
 use Rattle.candidates.specs.Candidates.{noMaterial}
-use Rattle.candidates.proofs.Wrote.{wrote-both, first-room, second-room, third-room}
+use Rattle.candidates.proofs.Rooms.{first-room, second-room, third-room}
 use borrow.Author.Needs.{needs}
 use Rattle.candidates.proofs.plain_features.Statement.{statement}
 use Rattle.candidates.proofs.plain_features.Tie as tie

@@ -7,7 +7,7 @@ use Rattle.laws.proofs.Lists.{any-yes, any-no, any-done}
 use Rattle.geometry.specs.Signed.{discOnFace}
 use Rattle.geometry.specs.declared.signed.Disc.{Disc}
 use Rattle.strips.specs.Strips.{faceAt, discAt}
-use Rattle.candidates.specs.Candidates.{foundDeep}
+use Rattle.proximities.specs.Proximities.{foundDeep}
 use Rattle.prepared_candidates.proofs.Placed.{list-whole}
 use Rattle.prepared_candidates.proofs.any_deep.Statement.{statement}
 use Rattle.prepared_candidates.proofs.any_deep.Tie as tie

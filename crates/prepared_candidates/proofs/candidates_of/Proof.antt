@@ -7,7 +7,7 @@ use Rattle.mechanism.specs.Pose.{worldOf}
 use Rattle.mechanism.specs.declared.pose.Placement.{Placement}
 use Rattle.strips.specs.Strips.{sideAt, pointAt, rowOfMaterial}
 use Rattle.drawing.specs.Prepared.{choiceAt}
-use Rattle.candidates.proofs.Wrote.{wrote-same}
+use Rattle.proximities.proofs.Wrote.{wrote-same}
 use Rattle.prepared_candidates.proofs.Pairs.{features-from, center-from, features-bound, center-bound}
 use Rattle.prepared_candidates.proofs.candidates_of.Statement.{statement}
 use Rattle.prepared_candidates.proofs.candidates_of.Tie as tie

@@ -2,8 +2,8 @@ use borrow.Author.Needs.{needs}
 use mathlib.Core.Path.{sym, _∙_}
 use Rattle.strips.specs.Strips.{facesFrom}
 use Rattle.drawing.specs.Prepared.{materialOr}
+use Rattle.proximities.proofs.Wrote.{wrote-same}
 use Rattle.candidates.specs.Candidates.{noMaterial}
-use Rattle.candidates.proofs.Wrote.{wrote-same}
 use Rattle.candidates.proofs.Deep.{flat-center-same}
 use Rattle.prepared_candidates.proofs.Placed.{center-deep-named}
 use Rattle.prepared_candidates.proofs.center_candidates.Statement.{statement}

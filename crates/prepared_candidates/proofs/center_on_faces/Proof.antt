@@ -3,8 +3,8 @@ use borrow.Author.Needs.{needs}
 use Prim.Native.Nat.{_+_, _-_}
 use Rattle.material.specs.Material.{materialOf}
 use Rattle.strips.specs.Strips.{faceAt, pieceAt}
-use Rattle.candidates.specs.Candidates.{readCenter}
-use Rattle.candidates.proofs.Wrote.{center-short, wrote-center, wrote-read, wrote-near, wrote-named}
+use Rattle.proximities.specs.Proximities.{readCenter}
+use Rattle.proximities.proofs.Wrote.{center-short, wrote-center, wrote-read, wrote-near, wrote-named}
 use Rattle.prepared_candidates.proofs.Listed.{Listed, listed-start, listed-more, listed-end, listed-one}
 use Rattle.prepared_candidates.proofs.Placed.{face-named}
 use Rattle.prepared_candidates.proofs.center_on_faces.Statement.{statement}

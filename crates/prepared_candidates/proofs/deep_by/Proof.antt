@@ -4,8 +4,8 @@ use Prim.Native.Nat.{_*_}
 use mathlib.Core.Path.{ap, _∙_}
 use Rattle.material.specs.Material.{Material}
 use Rattle.strips.specs.Strips.{facesFrom, discsFrom}
-use Rattle.candidates.specs.Candidates.{readAB, readBA, each}
-use Rattle.candidates.proofs.Wrote.{ab-short, ba-short, wrote-same, wrote-both}
+use Rattle.proximities.specs.Proximities.{readAB, readBA, each}
+use Rattle.proximities.proofs.Wrote.{ab-short, ba-short, wrote-same, wrote-both}
 use Rattle.candidates.proofs.Drawn.{noStarts, starts-long}
 use Rattle.prepared_candidates.proofs.Listed.{each-listed-few, second-room, third-room}
 use Rattle.candidates.proofs.Lent.{same-points, same-starts, all-few, points-in, starts-in, points-lent, starts-lent, lent-material}

@@ -6,8 +6,8 @@ use Rattle.laws.specs.Lists.{flat}
 use Rattle.material.specs.Material.{Material}
 use Rattle.strips.specs.Strips.{facesFrom}
 use Rattle.drawing.specs.Prepared.{allDrawn}
-use Rattle.candidates.specs.Candidates.{readCenter}
-use Rattle.candidates.proofs.Wrote.{wrote-same}
+use Rattle.proximities.specs.Proximities.{readCenter}
+use Rattle.proximities.proofs.Wrote.{wrote-same}
 use Rattle.prepared_candidates.proofs.Lent.{drawn-or, none-or}
 use Rattle.prepared_candidates.proofs.deep_center.Statement.{statement}
 use Rattle.prepared_candidates.proofs.deep_center.Tie as tie

@@ -4,8 +4,8 @@ use mathlib.Core.Path.{ap, _∙_}
 use Rattle.laws.specs.Lists.{flat}
 use Rattle.material.specs.Material.{Material}
 use Rattle.strips.specs.Strips.{facesFrom}
-use Rattle.candidates.specs.Candidates.{readCenter}
-use Rattle.candidates.proofs.Wrote.{wrote-same}
+use Rattle.proximities.specs.Proximities.{readCenter}
+use Rattle.proximities.proofs.Wrote.{wrote-same}
 use Rattle.candidates.proofs.Drawn.{noStarts, starts-long}
 use Rattle.candidates.proofs.Lent.{all-few, points-in, starts-in, points-lent, starts-lent, lent-material}
 use Rattle.prepared_candidates.proofs.Lent.{fitting, material-in}

@@ -5,8 +5,8 @@ use mathlib.Core.Path.{ap₂}
 use Rattle.material.specs.Material.{Material}
 use Rattle.strips.specs.Strips.{facesFrom, discsFrom}
 use Rattle.drawing.specs.Prepared.{allDrawn}
+use Rattle.proximities.proofs.Wrote.{wrote-same}
 use Rattle.candidates.specs.Candidates.{candidatesIn}
-use Rattle.candidates.proofs.Wrote.{wrote-same}
 use Rattle.prepared_candidates.proofs.Lent.{drawn-or, none-or}
 use Rattle.prepared_candidates.proofs.deep_features.Statement.{statement}
 use Rattle.prepared_candidates.proofs.deep_features.Tie as tie

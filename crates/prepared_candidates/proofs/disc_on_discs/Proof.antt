@@ -2,8 +2,8 @@ use native.Mathlib.Omega.{arith}
 use borrow.Author.Needs.{needs}
 use Prim.Native.Nat.{_+_, _-_}
 use Rattle.strips.specs.Strips.{discAt, pieceAt}
-use Rattle.candidates.specs.Candidates.{readDiscs}
-use Rattle.candidates.proofs.Wrote.{discs-short, wrote-discs, wrote-read, wrote-near, wrote-named}
+use Rattle.proximities.specs.Proximities.{readDiscs}
+use Rattle.proximities.proofs.Wrote.{discs-short, wrote-discs, wrote-read, wrote-near, wrote-named}
 use Rattle.prepared_candidates.proofs.Listed.{Listed, listed-start, listed-more, listed-end, listed-one}
 use Rattle.prepared_candidates.proofs.Placed.{disc-named}
 use Rattle.prepared_candidates.proofs.disc_on_discs.Statement.{statement}

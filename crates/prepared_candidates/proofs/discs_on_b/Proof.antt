@@ -4,8 +4,8 @@ use Prim.Native.Nat.{_+_, _-_}
 use Rattle.laws.specs.Lists.{flat}
 use Rattle.material.specs.Material.{materialOf}
 use Rattle.strips.specs.Strips.{faceAt, discAt, pieceAt, facesFrom}
-use Rattle.candidates.specs.Candidates.{readAB}
-use Rattle.candidates.proofs.Wrote.{ab-short, wrote-near, wrote-named}
+use Rattle.proximities.specs.Proximities.{readAB}
+use Rattle.proximities.proofs.Wrote.{ab-short, wrote-near, wrote-named}
 use Rattle.prepared_candidates.proofs.Listed.{Listed, listed-few, listed-start, listed-more, listed-end, listed-room}
 use Rattle.prepared_candidates.proofs.Placed.{disc-named}
 use Rattle.prepared_candidates.proofs.discs_on_b.Statement.{statement}

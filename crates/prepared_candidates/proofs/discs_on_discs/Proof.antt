@@ -3,8 +3,8 @@ use borrow.Author.Needs.{needs}
 use Prim.Native.Nat.{_+_, _-_}
 use Rattle.laws.specs.Lists.{flat}
 use Rattle.strips.specs.Strips.{discAt, pieceAt, discsFrom}
-use Rattle.candidates.specs.Candidates.{readDiscs}
-use Rattle.candidates.proofs.Wrote.{discs-short, wrote-near, wrote-named}
+use Rattle.proximities.specs.Proximities.{readDiscs}
+use Rattle.proximities.proofs.Wrote.{discs-short, wrote-near, wrote-named}
 use Rattle.prepared_candidates.proofs.Listed.{Listed, listed-few, listed-start, listed-more, listed-end, listed-room}
 use Rattle.prepared_candidates.proofs.Placed.{disc-named}
 use Rattle.prepared_candidates.proofs.discs_on_discs.Statement.{statement}

@@ -3,8 +3,8 @@ use mathlib.Core.Path.{sym, _∙_}
 use Rattle.laws.proofs.Choice.{neither}
 use Rattle.strips.specs.Strips.{facesFrom, discsFrom}
 use Rattle.drawing.specs.Prepared.{materialOr}
+use Rattle.proximities.proofs.Wrote.{wrote-same}
 use Rattle.candidates.specs.Candidates.{noMaterial}
-use Rattle.candidates.proofs.Wrote.{wrote-same}
 use Rattle.candidates.proofs.Deep.{candidates-same}
 use Rattle.prepared_candidates.proofs.Placed.{any-deep-named}
 use Rattle.prepared_candidates.proofs.features_candidates.Statement.{statement}

@@ -7,7 +7,7 @@ use mathlib.Core.Bool.{_&&_}
 use lib.Dec.{leb}
 use lib.ListN.{length}
 use Rattle.laws.proofs.Choice.{both, cond-yes, cond-no}
-use Rattle.candidates.proofs.Wrote.{wrote-same, wrote-nothing}
+use Rattle.proximities.proofs.Wrote.{wrote-same, wrote-nothing}
 use Rattle.prepared_candidates.proofs.pair_candidates_in.Statement.{statement}
 use Rattle.prepared_candidates.proofs.pair_candidates_in.Tie as tie
 

@@ -2,8 +2,8 @@ use borrow.Author.Needs.{needs}
 use mathlib.Core.Path.{ap}
 use Rattle.laws.specs.Lists.{flat}
 use Rattle.drawing.specs.Prepared.{materialOr}
-use Rattle.candidates.specs.Candidates.{readCenter}
-use Rattle.candidates.proofs.Wrote.{wrote-same}
+use Rattle.proximities.specs.Proximities.{readCenter}
+use Rattle.proximities.proofs.Wrote.{wrote-same}
 use Rattle.prepared_candidates.proofs.Placed.{noFaces, faces-fit, faces-back}
 use Rattle.prepared_candidates.proofs.pair_of_center.Statement.{statement}
 use Rattle.prepared_candidates.proofs.pair_of_center.Tie as tie

@@ -1,6 +1,6 @@
 use borrow.Author.Needs.{needs}
 use Rattle.drawing.specs.Prepared.{materialOr}
-use Rattle.candidates.proofs.Wrote.{wrote-same}
+use Rattle.proximities.proofs.Wrote.{wrote-same}
 use Rattle.prepared_candidates.proofs.Placed.{noFaces, noDiscs, faces-fit, discs-fit, faces-back, discs-back, candidates-alike}
 use Rattle.prepared_candidates.proofs.pair_of_features.Statement.{statement}
 use Rattle.prepared_candidates.proofs.pair_of_features.Tie as tie

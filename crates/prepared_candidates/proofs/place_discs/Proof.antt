@@ -11,7 +11,7 @@ use Rattle.laws.proofs.Lists.{list-turn, list-done}
 use Rattle.laws.proofs.Writing.{starts, puts, ends}
 use Rattle.geometry.specs.declared.signed.Disc.{Disc}
 use Rattle.strips.specs.Strips.{discAt, discRow}
-use Rattle.candidates.specs.Candidates.{worldDisc}
+use Rattle.proximities.specs.Proximities.{worldDisc}
 use Rattle.prepared_candidates.proofs.Placed.{rows-from, list-whole}
 use Rattle.prepared_candidates.proofs.place_discs.Statement.{statement}
 use Rattle.prepared_candidates.proofs.place_discs.Tie as tie

@@ -11,7 +11,7 @@ use Rattle.laws.proofs.Lists.{list-turn, list-done}
 use Rattle.laws.proofs.Writing.{starts, puts, ends}
 use Rattle.geometry.specs.declared.signed.Face.{Face}
 use Rattle.strips.specs.Strips.{faceAt, faceRow}
-use Rattle.candidates.specs.Candidates.{worldFace}
+use Rattle.proximities.specs.Proximities.{worldFace}
 use Rattle.prepared_candidates.proofs.Placed.{rows-from, list-whole}
 use Rattle.prepared_candidates.proofs.place_faces.Statement.{statement}
 use Rattle.prepared_candidates.proofs.place_faces.Tie as tie

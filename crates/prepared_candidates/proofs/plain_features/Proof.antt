@@ -1,7 +1,7 @@
 use borrow.Author.Needs.{needs}
 use Prim.Native.Nat.{_*_}
 use Rattle.laws.specs.Lists.{listIn}
-use Rattle.candidates.proofs.Wrote.{ab-short, ba-short, wrote-both}
+use Rattle.proximities.proofs.Wrote.{ab-short, ba-short, wrote-both}
 use Rattle.prepared_candidates.proofs.Listed.{each-listed-few, second-room, third-room}
 use Rattle.prepared_candidates.proofs.plain_features.Statement.{statement}
 use Rattle.prepared_candidates.proofs.plain_features.Tie as tie

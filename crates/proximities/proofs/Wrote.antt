@@ -25,9 +25,8 @@ use Rattle.mechanism.specs.declared.features.Piece.{Piece}
 use Rattle.material.specs.Material.{Material}
 use Rattle.sides.specs.declared.PlacedDisc.{PlacedDisc}
 use Rattle.sides.specs.declared.PlacedFace.{PlacedFace}
-use Rattle.sides.specs.declared.SideFeatures.{SideFeatures}
-use Rattle.candidates.specs.declared.Candidate.{Candidate}
-use Rattle.candidates.specs.Candidates.{reading, readingAt, keptIf, exchanged, realOf, centerReal, readAB, readBA, readDiscs, readCenter, each, facesIn, discsIn, FewPlaced, nearRow, namedRow, Written}
+use Rattle.proximities.specs.declared.Candidate.{Candidate}
+use Rattle.proximities.specs.Proximities.{reading, readingAt, keptIf, exchanged, realOf, centerReal, readAB, readBA, readDiscs, readCenter, each, nearRow, namedRow, Written}
 
 pub wrote-nothing : (at : ℕ) (near : List (List Float)) (named : List (List ℕ)) → Written [] at at near near named named
 wrote-nothing at near named = record { end = sym (add-zero at); nears = refl; names = refl }
@@ -130,38 +129,8 @@ pub first-few : {A : Type 0} (f : A → List Candidate) → ((x : A) → length 
 first-few f h l n = let s = flat-first-few f 1 h l n in omega arith
 
 -- each of the first n elements of an array with each of the first m of another
-each-few : {A B : Type 0} (f : A → B → List Candidate) → ((x : A) (y : B) → length (f x y) ≤ 1) → (l : List A) (n : ℕ) (r : List B) (m : ℕ) → length (each f (take n l) (take m r)) ≤ n * m
+pub each-few : {A B : Type 0} (f : A → B → List Candidate) → ((x : A) (y : B) → length (f x y) ≤ 1) → (l : List A) (n : ℕ) (r : List B) (m : ℕ) → length (each f (take n l) (take m r)) ≤ n * m
 each-few f h l n r m = flat-first-few (λ x. flat (f x) (take m r)) m (λ x. first-few (f x) (h x) r m) l n
-
--- ---- 784 places are enough for the three kinds of readings of two sides, one kind after the other
-module _ {a b : SideFeatures} (few : FewPlaced a b) (near₀ : List (List Float)) (named₀ : List (List ℕ)) (p : 784 ≤ length near₀) (q : 784 ≤ length named₀) where
-  pub first-room : (a .discs ≤ 28) × (b .faces ≤ 12) × (0 + a .discs * b .faces ≤ length near₀) × (0 + a .discs * b .faces ≤ length named₀)
-  first-room = let f = few .few in (few .discs-a, few .faces-b, omega (arith, f, p), omega (arith, f, q))
-
-  module _ {i : ℕ} {near : List (List Float)} {named : List (List ℕ)} (mb : Material) (v : Written (each (readAB mb) (discsIn a) (facesIn b)) 0 i near₀ near named₀ named) where
-    first-upto : i ≤ a .discs * b .faces
-    first-upto = let e = v .end in let s = each-few (readAB mb) (ab-short mb) (a .disc) (a .discs) (b .face) (b .faces) in omega (arith, e, s)
-
-    pub second-room : (b .discs ≤ 28) × (a .faces ≤ 12) × (i + b .discs * a .faces ≤ length near) × (i + b .discs * a .faces ≤ length named)
-    second-room =
-        let f = few .few in
-        let u = first-upto in
-        let x = wrote-near v in
-        let y = wrote-named v in
-        (few .discs-b, few .faces-a, omega (arith, f, p, u, x), omega (arith, f, q, u, y))
-
-    pub third-room : {j : ℕ} {near′ : List (List Float)} {named′ : List (List ℕ)} (ma : Material) → Written (each (readBA ma) (discsIn b) (facesIn a)) i j near near′ named named′
-        → (a .discs ≤ 28) × (b .discs ≤ 28) × (j + a .discs * b .discs ≤ length near′) × (j + a .discs * b .discs ≤ length named′)
-    third-room ma w =
-        let f = few .few in
-        let u = first-upto in
-        let e = w .end in
-        let s = each-few (readBA ma) (ba-short ma) (b .disc) (b .discs) (a .face) (a .faces) in
-        let x = wrote-near v in
-        let y = wrote-named v in
-        let x′ = wrote-near w in
-        let y′ = wrote-named w in
-        (few .discs-a, few .discs-b, omega (arith, f, p, u, e, s, x, x′), omega (arith, f, q, u, e, s, y, y′))
 
 -- i of n turns of b each, and one more
 pub one-more : (i n b : ℕ) → i < n → i * b + b ≤ n * b

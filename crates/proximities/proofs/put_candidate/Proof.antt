@@ -6,9 +6,9 @@ use mathlib.Core.Bool.{true, _&&_}
 use lib.Dec.{ltb}
 use lib.ListN.{length}
 use Rattle.laws.proofs.Choice.{both}
-use Rattle.candidates.proofs.Wrote.{put-one, put-none, put-full}
-use Rattle.candidates.proofs.put_candidate.Statement.{statement}
-use Rattle.candidates.proofs.put_candidate.Tie as tie
+use Rattle.proximities.proofs.Wrote.{put-one, put-none, put-full}
+use Rattle.proximities.proofs.put_candidate.Statement.{statement}
+use Rattle.proximities.proofs.put_candidate.Tie as tie
 
 in-both : (at near named : ℕ) → (ltb at near && ltb at named) ≡ true → (at < near) × (at < named)
 in-both at near named e = let t = both (ltb at near) (ltb at named) e in (ltb-true at near (t .0), ltb-true at named (t .1))

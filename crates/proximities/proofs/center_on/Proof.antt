@@ -1,6 +1,6 @@
 use borrow.Author.Needs.{needs}
-use Rattle.candidates.proofs.center_on.Statement.{statement}
-use Rattle.candidates.proofs.center_on.Tie as tie
+use Rattle.proximities.proofs.center_on.Statement.{statement}
+use Rattle.proximities.proofs.center_on.Tie as tie
 
 center-on-face-requires : tie.Need-center-on-face-requires
 center-on-face-requires c κs = search needs

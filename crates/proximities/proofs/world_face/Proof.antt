@@ -1,6 +1,6 @@
 use borrow.Author.Needs.{needs}
-use Rattle.candidates.proofs.world_face.Statement.{statement}
-use Rattle.candidates.proofs.world_face.Tie as tie
+use Rattle.proximities.proofs.world_face.Statement.{statement}
+use Rattle.proximities.proofs.world_face.Tie as tie
 
 world-requires : tie.Need-world-requires
 world-requires c κs = search needs

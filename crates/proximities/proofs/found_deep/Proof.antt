@@ -1,6 +1,6 @@
 use borrow.Author.Needs.{needs}
-use Rattle.candidates.proofs.found_deep.Statement.{statement}
-use Rattle.candidates.proofs.found_deep.Tie as tie
+use Rattle.proximities.proofs.found_deep.Statement.{statement}
+use Rattle.proximities.proofs.found_deep.Tie as tie
 
 enum-known-found : tie.Need-enum-known-found
 enum-known-found c = search needs

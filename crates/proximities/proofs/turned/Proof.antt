@@ -1,7 +1,7 @@
-use Rattle.candidates.specs.Candidates.{turnedOf}
+use Rattle.proximities.specs.Proximities.{turnedOf}
 use borrow.Author.Needs.{needs}
-use Rattle.candidates.proofs.turned.Statement.{statement}
-use Rattle.candidates.proofs.turned.Tie as tie
+use Rattle.proximities.proofs.turned.Statement.{statement}
+use Rattle.proximities.proofs.turned.Tie as tie
 
 is-world-requires : tie.Need-is-world-requires
 is-world-requires c κs = search needs
