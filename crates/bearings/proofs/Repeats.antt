@@ -6,18 +6,18 @@ use lib.Dec.{eqb, ltb}
 use Rattle.mechanism.specs.Check.{callChecked}
 use Rattle.mechanism.specs.Description.{pairAt}
 use Rattle.mechanism.specs.Piece.{isDisc, letterOf, partOf, segOf, pieceIn}
-use Rattle.mechanism.specs.Pose.{placementAt, poseFits}
+use Rattle.bodies.specs.Pose.{placementAt, poseFits}
 use Rattle.mechanism.specs.Rows.{placeRow, valueRow, rowIn}
-use Rattle.mechanism.specs.declared.Checked.{Checked}
-use Rattle.mechanism.specs.declared.Checked.the-variants.{Accepted, Refused}
+use Rattle.bodies.specs.declared.Checked.{Checked}
+use Rattle.bodies.specs.declared.Checked.the-variants.{Accepted, Refused}
 use Rattle.mechanism.specs.declared.Mechanism.{Mechanism}
 use Rattle.mechanism.specs.declared.bearing.Bearing.{Bearing}
 use Rattle.mechanism.specs.declared.bearing.MaybeBearing.{MaybeBearing}
 use Rattle.mechanism.specs.declared.bearing.MaybeBearing.the-variants.{SomeBearing, NoBearing}
 use Rattle.mechanism.specs.declared.features.Piece.{Piece}
 use Rattle.mechanism.specs.declared.features.Piece.the-variants.{Segment, Arc, Vertex, Center}
-use Rattle.mechanism.specs.declared.pose.Placement.{Placement}
-use Rattle.mechanism.specs.declared.pose.Pose.{Pose}
+use Rattle.bodies.specs.declared.pose.Placement.{Placement}
+use Rattle.bodies.specs.declared.pose.Pose.{Pose}
 use Rattle.mechanism.specs.declared.rows.Row.{Row}
 use Rattle.sides.specs.Contacts.{pairFeatures}
 use Rattle.sides.specs.declared.SideFeatures.{SideFeatures}

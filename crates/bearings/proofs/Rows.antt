@@ -13,13 +13,13 @@ use Rattle.laws.specs.Lists.{listIn}
 use Rattle.laws.proofs.Choice.{cond-yes, cond-no}
 use Rattle.laws.proofs.Lists.{list-get}
 use Rattle.mechanism.specs.Piece.{letterOf, isDisc, samePiece}
-use Rattle.mechanism.specs.Pose.{placementAt, worldOf}
+use Rattle.bodies.specs.Pose.{placementAt, worldOf}
 use Rattle.mechanism.specs.declared.bearing.MaybeBearing.{MaybeBearing}
 use Rattle.mechanism.specs.declared.bearing.MaybeBearing.the-variants.{NoBearing}
 use Rattle.mechanism.specs.declared.bearing.HowItBears.the-variants.{KeyCorner}
 use Rattle.mechanism.specs.declared.features.Piece.{Piece}
-use Rattle.mechanism.specs.declared.pose.Placement.{Placement}
-use Rattle.mechanism.specs.declared.pose.Pose.{Pose}
+use Rattle.bodies.specs.declared.pose.Placement.{Placement}
+use Rattle.bodies.specs.declared.pose.Pose.{Pose}
 use Rattle.mechanism.specs.declared.rows.Row.{Row}
 use Rattle.geometry.specs.Geometry.{vectorOf}
 use Rattle.geometry.specs.declared.Point.{Point}

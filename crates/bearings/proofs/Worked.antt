@@ -5,7 +5,7 @@ use lib.Ieee.{Float, add, sub, mul, div, le, ofBits}
 use Rattle.ieee.specs.Consts.{zeroF, oneF, halfF}
 use Rattle.geometry.specs.declared.Point.{Point}
 use Rattle.geometry.specs.declared.signed.Face.{Face}
-use Rattle.mechanism.specs.declared.pose.Placement.{Placement}
+use Rattle.bodies.specs.declared.pose.Placement.{Placement}
 use Rattle.bearings.specs.Bearing.{spans}
 
 abbrev at : Float → Float → Point

@@ -21,10 +21,10 @@ use Rattle.geometry.specs.declared.signed.Face.{Face}
 use Rattle.mechanism.specs.Check.{callChecked}
 use Rattle.mechanism.specs.Description.{pairAt}
 use Rattle.mechanism.specs.Piece.{isDisc, letterOf, samePiece}
-use Rattle.mechanism.specs.Pose.{placementAt, rotateOf, worldOf, poseFits}
+use Rattle.bodies.specs.Pose.{placementAt, rotateOf, worldOf, poseFits}
 use Rattle.mechanism.specs.Rows.{rowIn}
-use Rattle.mechanism.specs.declared.Checked.{Checked}
-use Rattle.mechanism.specs.declared.Checked.the-variants.{Accepted, Refused}
+use Rattle.bodies.specs.declared.Checked.{Checked}
+use Rattle.bodies.specs.declared.Checked.the-variants.{Accepted, Refused}
 use Rattle.mechanism.specs.declared.Mechanism.{Mechanism}
 use Rattle.mechanism.specs.declared.bearing.HowItBears.{HowItBears}
 use Rattle.mechanism.specs.declared.bearing.HowItBears.the-variants.{Flat, StopEdge, KeyCorner}
@@ -33,8 +33,8 @@ use Rattle.mechanism.specs.declared.bearing.MaybeBearing.the-variants.{SomeBear
 use Rattle.mechanism.specs.declared.bearing.MaybeSlope.{MaybeSlope}
 use Rattle.mechanism.specs.declared.bearing.MaybeSlope.the-variants.{SomeSlope, NoSlope}
 use Rattle.mechanism.specs.declared.features.Piece.{Piece}
-use Rattle.mechanism.specs.declared.pose.Placement.{Placement}
-use Rattle.mechanism.specs.declared.pose.Pose.{Pose}
+use Rattle.bodies.specs.declared.pose.Placement.{Placement}
+use Rattle.bodies.specs.declared.pose.Pose.{Pose}
 use Rattle.mechanism.specs.declared.rows.Row.{Row}
 use Rattle.sides.specs.Contacts.{pairFeatures}
 use Rattle.sides.specs.declared.PlacedDisc.{PlacedDisc}

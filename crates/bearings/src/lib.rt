@@ -15,6 +15,10 @@ ghost use Rattle.bearings.specs.declared.MaybeFace.the-variants.{SomeFac
 
 pub mod prepared;
 
+use bodies::Checked;
+use bodies::pose::Placement;
+use bodies::pose::Pose;
+use bodies::pose::placement_at;
 use faces::along;
 use geometry::Dir;
 use geometry::MaybeDir;
@@ -32,7 +36,6 @@ use ieee::num::same;
 use ieee::order::total_order;
 use ieee::root::root;
 use material::Spot;
-use mechanism::Checked;
 use mechanism::bearing::Bearing;
 use mechanism::bearing::HowItBears;
 use mechanism::bearing::MaybeBearing;
@@ -42,9 +45,6 @@ use mechanism::features::Piece;
 use mechanism::features::letter;
 use mechanism::features::part;
 use mechanism::features::seg;
-use mechanism::pose::Placement;
-use mechanism::pose::Pose;
-use mechanism::pose::placement_at;
 use mechanism::rows::Place;
 use mechanism::rows::Row;
 use mechanism::rows::Value;

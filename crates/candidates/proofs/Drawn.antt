@@ -16,7 +16,7 @@ use Rattle.mechanism.specs.Check.{FewParts}
 use Rattle.mechanism.specs.declared.Outlines.{Outlines}
 use Rattle.mechanism.specs.declared.Parts.{Parts}
 use Rattle.mechanism.specs.declared.pair.Surface.{Surface}
-use Rattle.mechanism.specs.declared.pose.Pose.{Pose}
+use Rattle.bodies.specs.declared.pose.Pose.{Pose}
 use Rattle.mechanism.proofs.Checks.{parts-few}
 use Rattle.material.specs.Material.{Material, materialOf}
 use Rattle.drawing.specs.Drawing.{sideMaterial, solidsOf, cutsOf, chosenMaterial, sideChosen, rowOf, same, rowsOf, startsOf, roomFor, countsOf}

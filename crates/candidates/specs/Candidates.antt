@@ -10,14 +10,14 @@ use Rattle.geometry.specs.Signed.{discOnFace, centerOnFace}
 use Rattle.geometry.specs.declared.Point.{Point}
 use Rattle.geometry.specs.declared.signed.Disc.{Disc}
 use Rattle.mechanism.specs.Check.{pairDrawn}
-use Rattle.mechanism.specs.Pose.{worldOf, placementAt}
+use Rattle.bodies.specs.Pose.{worldOf, placementAt}
 use Rattle.mechanism.specs.declared.Outlines.{Outlines}
 use Rattle.mechanism.specs.declared.Parts.{Parts}
 use Rattle.mechanism.specs.declared.pair.ContactPair.{ContactPair}
 use Rattle.mechanism.specs.declared.pair.PairGeometry.{PairGeometry}
 use Rattle.mechanism.specs.declared.pair.PairGeometry.the-variants.{Features, CenterBearing}
-use Rattle.mechanism.specs.declared.pose.Placement.{Placement}
-use Rattle.mechanism.specs.declared.pose.Pose.{Pose}
+use Rattle.bodies.specs.declared.pose.Placement.{Placement}
+use Rattle.bodies.specs.declared.pose.Pose.{Pose}
 use Rattle.material.specs.Material.{Material}
 use Rattle.drawing.specs.Drawing.{sideMaterial}
 use Rattle.sides.specs.Contacts.{pairFeatures}

@@ -10,7 +10,7 @@ use lib.ListN.{length}
 use lib.Ieee.{Float}
 use Rattle.mechanism.specs.Description.{pairAt}
 use Rattle.mechanism.specs.declared.Mechanism.{Mechanism}
-use Rattle.mechanism.specs.declared.pose.Pose.{Pose}
+use Rattle.bodies.specs.declared.pose.Pose.{Pose}
 use Rattle.showing.specs.Showing.{shows}
 use Rattle.showing.proofs.Demand3.{Demand3, Instead, demand-3}
 use Rattle.proximities.specs.declared.Candidate.{Candidate}

@@ -13,7 +13,7 @@ use Rattle.laws.specs.Loops.{keep}
 use Rattle.laws.proofs.Lists.{flat-map, flat-append}
 use Rattle.geometry.specs.Geometry.{vectorOf}
 use Rattle.mechanism.specs.declared.Mechanism.{Mechanism}
-use Rattle.mechanism.specs.declared.pose.Pose.{Pose}
+use Rattle.bodies.specs.declared.pose.Pose.{Pose}
 use Rattle.mechanism.specs.declared.rows.Row.{Row}
 use Rattle.showing.proofs.Demand3.{margins}
 use Rattle.pair_rows.specs.PairRows.{leftOf}

@@ -19,7 +19,7 @@ use Rattle.mechanism.specs.declared.Mechanism.{Mechanism}
 use Rattle.mechanism.specs.declared.bearing.Bearing.{Bearing}
 use Rattle.mechanism.specs.declared.bearing.MaybeBearing.the-variants.{SomeBearing}
 use Rattle.mechanism.specs.declared.features.Piece.{Piece}
-use Rattle.mechanism.specs.declared.pose.Pose.{Pose}
+use Rattle.bodies.specs.declared.pose.Pose.{Pose}
 use Rattle.mechanism.specs.declared.rows.Row.{Row}
 use Rattle.material.specs.Material.{Material}
 use Rattle.sides.specs.Contacts.{pairBound, mechanismBound}

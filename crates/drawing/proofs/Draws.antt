@@ -23,7 +23,7 @@ use Rattle.mechanism.specs.Description.{segsOf, startOfPart}
 use Rattle.mechanism.proofs.Checks.{few-parts}
 use Rattle.mechanism.specs.declared.Outlines.{Outlines}
 use Rattle.mechanism.specs.declared.Parts.{Parts}
-use Rattle.mechanism.specs.declared.pose.Pose.{Pose}
+use Rattle.bodies.specs.declared.pose.Pose.{Pose}
 use Rattle.drawing.specs.Drawing.{polygonOf, polygonsOf, chosenAs, solidsOf, cutsOf, rowOf, same, rowsOf, endsFrom, startsOf, cursorAfter, chosenSegs, chosenCount, roomFor, countsOf}
 use Rattle.drawing.specs.declared.Chosen.{Chosen}
 use Rattle.drawing.specs.declared.Cursor.{Cursor}

@@ -6,13 +6,13 @@ use mir.Val.{Val}
 use denote.Laws.{Is}
 use Rattle.mechanism.specs.declared.Parts.{Parts}
 use Rattle.mechanism.specs.declared.pair.Surface.{Surface}
-use Rattle.mechanism.specs.declared.pose.Pose.{Pose}
+use Rattle.bodies.specs.declared.pose.Pose.{Pose}
 use Rattle.mechanism.proofs.Parts as P
 use Rattle.mechanism.proofs.part.Part as E
 use Rattle.mechanism.proofs.pair.Surface as U
 use Rattle.mechanism.proofs.part.SurfaceRef as R
-use Rattle.mechanism.proofs.pose.Pose as Q
-use Rattle.mechanism.proofs.pose.Placement as L
+use Rattle.bodies.proofs.pose.Pose as Q
+use Rattle.bodies.proofs.pose.Placement as L
 use Rattle.silhouette.proofs.Known.{array-length}
 
 pub parts-long : (s : Parts) (vs : List Val) → Is P.the-row s vs → length (s .part) ≡ 32

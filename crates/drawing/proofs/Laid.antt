@@ -19,11 +19,11 @@ use Rattle.laws.proofs.Writing.{sets-taken}
 use Rattle.geometry.specs.declared.Point.{Point}
 use Rattle.mechanism.specs.Check.{FewParts}
 use Rattle.mechanism.specs.Description.{partAt, segsOf}
-use Rattle.mechanism.specs.Pose.{worldOf}
+use Rattle.bodies.specs.Pose.{worldOf}
 use Rattle.mechanism.specs.declared.Outlines.{Outlines}
 use Rattle.mechanism.specs.declared.Parts.{Parts}
 use Rattle.mechanism.specs.declared.pair.Surface.{Surface}
-use Rattle.mechanism.specs.declared.pose.Pose.{Pose}
+use Rattle.bodies.specs.declared.pose.Pose.{Pose}
 use Rattle.silhouette.specs.Silhouette.{inTheSection, silhouetteAt}
 use Rattle.material.specs.Material.{Edge, Material, pointOf, pointsOf, between, polyAt, materialOf}
 use Rattle.drawing.specs.Drawing.{isCut, isReadCut, placedOf, polygonOf, onSide, solidIn, cutIn, sideMaterial, chosenAs, solidsOf, cutsOf, chosenMaterial, whatIs, sideChosen, rowOf, same, rowsOf, endsFrom, startsOf, roomFor}

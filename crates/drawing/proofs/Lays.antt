@@ -18,10 +18,10 @@ use Rattle.laws.proofs.Loops.{filter-yes, filter-no, filter-done}
 use Rattle.laws.proofs.Sums.{sums-within, sum-ones}
 use Rattle.laws.proofs.Writing.{starts, puts, goes-on, appends-map, ends, ends-count}
 use Rattle.geometry.specs.declared.Point.{Point}
-use Rattle.mechanism.specs.declared.pose.Placement.{Placement}
-use Rattle.mechanism.specs.declared.pose.Pose.{Pose}
+use Rattle.bodies.specs.declared.pose.Placement.{Placement}
+use Rattle.bodies.specs.declared.pose.Pose.{Pose}
 use Rattle.strips.specs.declared.PartFacts.{PartFacts}
-use Rattle.mechanism.specs.Pose.{placementAt, worldOf}
+use Rattle.bodies.specs.Pose.{placementAt, worldOf}
 use Rattle.strips.specs.Strips.{partAt, pointAt}
 use Rattle.strips.proofs.Bounds.{at-most-small}
 use Rattle.drawing.specs.Drawing.{chosenAs, rowOf, same, rowsOf, endsFrom, startsOf, cursorAfter, countsOf}

@@ -19,13 +19,13 @@ use Rattle.geometry.specs.declared.Point.{Point}
 use Rattle.geometry.specs.declared.Seg.{Seg}
 use Rattle.geometry.specs.declared.Seg.the-variants.{Line, Arc}
 use Rattle.mechanism.specs.Description.{noSeg, partAt, segsOf, startOfPart, silhouetteLength}
-use Rattle.mechanism.specs.Pose.{worldOf}
+use Rattle.bodies.specs.Pose.{worldOf}
 use Rattle.mechanism.specs.declared.Outlines.{Outlines}
 use Rattle.mechanism.specs.declared.Parts.{Parts}
 use Rattle.mechanism.specs.declared.part.Sweep.{Sweep}
 use Rattle.mechanism.specs.declared.part.Sweep.the-variants.{Extruded, Revolved, Milled, Oval}
-use Rattle.mechanism.specs.declared.pose.Placement.{Placement}
-use Rattle.mechanism.specs.declared.pose.Pose.{Pose}
+use Rattle.bodies.specs.declared.pose.Placement.{Placement}
+use Rattle.bodies.specs.declared.pose.Pose.{Pose}
 use Rattle.silhouette.specs.Silhouette.{segOf, noLine, segsIn, asSilhouette, isPart, outlineOf, silhouetteOf, silhouetteAt}
 use Rattle.silhouette.specs.declared.SilhouetteSegs.{SilhouetteSegs}
 use Rattle.silhouette.proofs.Walks.{held-long, held-at, segs-in, up-done}

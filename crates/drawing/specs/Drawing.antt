@@ -12,7 +12,7 @@ use Rattle.geometry.specs.declared.Point.{Point}
 use Rattle.geometry.specs.declared.Seg.{Seg}
 use Rattle.mechanism.specs.Check.{partsOver}
 use Rattle.mechanism.specs.Description.{sumIn, partAt, rangeAt, segsOf}
-use Rattle.mechanism.specs.Pose.{placementAt, worldOf}
+use Rattle.bodies.specs.Pose.{placementAt, worldOf}
 use Rattle.mechanism.specs.declared.Outlines.{Outlines}
 use Rattle.mechanism.specs.declared.Parts.{Parts}
 use Rattle.mechanism.specs.declared.pair.Surface.{Surface}
@@ -20,8 +20,8 @@ use Rattle.mechanism.specs.declared.part.Part.{Part}
 use Rattle.mechanism.specs.declared.part.Role.{Role}
 use Rattle.mechanism.specs.declared.part.Role.the-variants.{Solid, Cut, Lining}
 use Rattle.mechanism.specs.declared.part.SurfaceRef.{SurfaceRef}
-use Rattle.mechanism.specs.declared.pose.Placement.{Placement}
-use Rattle.mechanism.specs.declared.pose.Pose.{Pose}
+use Rattle.bodies.specs.declared.pose.Placement.{Placement}
+use Rattle.bodies.specs.declared.pose.Pose.{Pose}
 use Rattle.silhouette.specs.Silhouette.{inTheSection, silhouetteAt}
 use Rattle.material.specs.Material.{Material}
 use Rattle.drawing.specs.declared.Chosen.{Chosen}

@@ -9,8 +9,8 @@ use Rattle.laws.specs.Lists.{listIn}
 use Rattle.laws.specs.Loops.{filterIn}
 use Rattle.geometry.specs.declared.Point.{Point}
 use Rattle.mechanism.specs.Description.{sumIn}
-use Rattle.mechanism.specs.Pose.{placementAt, worldOf}
-use Rattle.mechanism.specs.declared.pose.Pose.{Pose}
+use Rattle.bodies.specs.Pose.{placementAt, worldOf}
+use Rattle.bodies.specs.declared.pose.Pose.{Pose}
 use Rattle.material.specs.Material.{Material}
 use Rattle.strips.specs.Strips.{partAt, pointAt, atMost}
 use Rattle.drawing.specs.Drawing.{chosenAs}

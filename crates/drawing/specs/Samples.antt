@@ -15,10 +15,10 @@ use Rattle.geometry.specs.declared.Seg.{Seg}
 use Rattle.geometry.specs.declared.Seg.the-variants.{Line, Arc}
 use Rattle.mechanism.specs.Check.{partsOver, samePoint}
 use Rattle.mechanism.specs.Description.{partAt}
-use Rattle.mechanism.specs.Pose.{worldOf}
+use Rattle.bodies.specs.Pose.{worldOf}
 use Rattle.mechanism.specs.declared.Outlines.{Outlines}
 use Rattle.mechanism.specs.declared.Parts.{Parts}
-use Rattle.mechanism.specs.declared.pose.Pose.{Pose}
+use Rattle.bodies.specs.declared.pose.Pose.{Pose}
 use Rattle.silhouette.specs.Silhouette.{silhouetteAt, isPart}
 use Rattle.material.specs.Material.{Edge}
 use Rattle.drawing.specs.Drawing.{isReadCut, drawnPoints, placedOf}

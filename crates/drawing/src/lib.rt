@@ -8,13 +8,16 @@ ghost use lib.Seq.{sets};
 ghost use Rattle.laws.specs.Lists.{flat};
 ghost use Rattle.mechanism.specs.Check.{FewParts};
 ghost use Rattle.mechanism.specs.Description.{segsOf};
-ghost use Rattle.mechanism.specs.Pose.{worldOf};
+ghost use Rattle.bodies.specs.Pose.{worldOf};
 ghost use Rattle.silhouette.specs.Silhouette.{segsIn};
 ghost use Rattle.drawing.specs.Drawing.{isCut, isSampled, isReadCut, drawnPoints, polygonOf, polygonsOf, bodyOfSide, isOwn, hasOwn, whatIs, sideChosen, chosenAs, solidsOf, cutsOf, chosenSegs, chosenCount, rowOf, rowsOf, endsFrom, startsOf, cursorAfter, roomFor, countsOf};
 
 pub mod prepared;
 pub mod samples;
 
+use bodies::pose::Placement;
+use bodies::pose::Pose;
+use bodies::pose::placement_at;
 use geometry::Drawn;
 use geometry::Point;
 use geometry::Seg;
@@ -28,9 +31,6 @@ use mechanism::part::Part;
 use mechanism::part::Role;
 use mechanism::part::SurfaceRef;
 use mechanism::part::Sweep;
-use mechanism::pose::Placement;
-use mechanism::pose::Pose;
-use mechanism::pose::placement_at;
 use silhouette::SilhouetteSegs;
 use silhouette::is_in_the_section;
 use silhouette::silhouette_at;

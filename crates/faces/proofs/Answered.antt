@@ -9,14 +9,14 @@ use borrow.Author.Tests.{ltb-true}
 use Rattle.laws.proofs.Choice.{cond-yes}
 use Rattle.mechanism.specs.Check.{checkOf, callChecked, answerOf}
 use Rattle.mechanism.specs.Description.{pairAt}
-use Rattle.mechanism.specs.Pose.{poseFits}
-use Rattle.mechanism.specs.declared.Checked.{Checked}
-use Rattle.mechanism.specs.declared.Checked.the-variants.{Accepted, Refused}
+use Rattle.bodies.specs.Pose.{poseFits}
+use Rattle.bodies.specs.declared.Checked.{Checked}
+use Rattle.bodies.specs.declared.Checked.the-variants.{Accepted, Refused}
 use Rattle.mechanism.specs.declared.FloatAnswer.the-variants.{IsFloat, NoFloat}
 use Rattle.mechanism.specs.declared.Mechanism.{Mechanism}
-use Rattle.mechanism.specs.declared.Problem.{Problem}
+use Rattle.bodies.specs.declared.Problem.{Problem}
 use Rattle.mechanism.specs.declared.pair.ContactPair.{ContactPair}
-use Rattle.mechanism.specs.declared.pose.Pose.{Pose}
+use Rattle.bodies.specs.declared.pose.Pose.{Pose}
 use Rattle.mechanism.proofs.Checks.{call-accepted, accepted-few}
 use Rattle.mechanism.proofs.Drawn.{accepted-pair-drawn}
 use Rattle.sides.specs.Contacts.{pairFeatures, pairFeaturesAt}

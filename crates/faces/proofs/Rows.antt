@@ -11,8 +11,8 @@ use Rattle.laws.specs.Fill.{filled}
 use Rattle.laws.proofs.Fill.{take-filled}
 use Rattle.laws.proofs.Lists.{fold-on}
 use Rattle.geometry.specs.declared.signed.Face.{Face}
-use Rattle.mechanism.specs.Pose.{placementAt}
-use Rattle.mechanism.specs.declared.pose.Pose.{Pose}
+use Rattle.bodies.specs.Pose.{placementAt}
+use Rattle.bodies.specs.declared.pose.Pose.{Pose}
 use Rattle.sides.specs.Features.{noFace}
 use Rattle.strips.specs.Strips.{faceAt, facesOfSide, sideAt, rowA, rowB, pairIn, SmallSide}
 use Rattle.strips.specs.declared.SideFacts.{SideFacts}

@@ -13,8 +13,8 @@ use Rattle.geometry.specs.Geometry.{vectorOf}
 use Rattle.geometry.specs.Signed.{subOf, dotOf}
 use Rattle.geometry.specs.declared.Point.{Point}
 use Rattle.geometry.specs.declared.signed.Face.{Face}
-use Rattle.mechanism.specs.Pose.{rotateOf, worldOf}
-use Rattle.mechanism.specs.declared.pose.Placement.{Placement}
+use Rattle.bodies.specs.Pose.{rotateOf, worldOf}
+use Rattle.bodies.specs.declared.pose.Placement.{Placement}
 use Rattle.faces.specs.Faces.{alongOf, reachOf, withinOf, cutOf, overOf, pastOf, isLong, stepOf}
 
 -- the part of B's face from lo to hi: d is the deepest so far, no NaN, and stays none

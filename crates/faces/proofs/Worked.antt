@@ -6,7 +6,7 @@ use Rattle.laws.specs.Lists.{foldl}
 use Rattle.ieee.specs.Consts.{zeroF, oneF, twoF}
 use Rattle.geometry.specs.declared.Point.{Point}
 use Rattle.geometry.specs.declared.signed.Face.{Face}
-use Rattle.mechanism.specs.declared.pose.Placement.{Placement}
+use Rattle.bodies.specs.declared.pose.Placement.{Placement}
 use Rattle.faces.specs.Faces.{withinOf, overOf, facesOverlap}
 
 abbrev quarterF : Float

@@ -15,11 +15,11 @@ use Rattle.geometry.specs.declared.Point.{Point}
 use Rattle.geometry.specs.declared.signed.Face.{Face}
 use Rattle.mechanism.specs.Check.{callChecked, answerOf}
 use Rattle.mechanism.specs.Description.{pairAt}
-use Rattle.mechanism.specs.Pose.{placementAt, rotateOf, worldOf, poseFits}
+use Rattle.bodies.specs.Pose.{placementAt, rotateOf, worldOf, poseFits}
 use Rattle.mechanism.specs.declared.FloatAnswer.{FloatAnswer}
 use Rattle.mechanism.specs.declared.Mechanism.{Mechanism}
-use Rattle.mechanism.specs.declared.pose.Placement.{Placement}
-use Rattle.mechanism.specs.declared.pose.Pose.{Pose}
+use Rattle.bodies.specs.declared.pose.Placement.{Placement}
+use Rattle.bodies.specs.declared.pose.Pose.{Pose}
 use Rattle.sides.specs.Contacts.{pairFeatures}
 use Rattle.sides.specs.declared.PlacedFace.{PlacedFace}
 use Rattle.sides.specs.declared.SideFeatures.{SideFeatures}

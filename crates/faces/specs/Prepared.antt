@@ -4,8 +4,8 @@ use mathlib.Core.List.{List}
 use lib.Ieee.{Float}
 use Rattle.laws.specs.Lists.{listIn}
 use Rattle.geometry.specs.declared.signed.Face.{Face}
-use Rattle.mechanism.specs.Pose.{placementAt}
-use Rattle.mechanism.specs.declared.pose.Pose.{Pose}
+use Rattle.bodies.specs.Pose.{placementAt}
+use Rattle.bodies.specs.declared.pose.Pose.{Pose}
 use Rattle.strips.specs.Strips.{faceAt, sideAt, rowA, rowB}
 use Rattle.strips.specs.declared.SideFacts.{SideFacts}
 use Rattle.faces.specs.Faces.{facesOverlap}

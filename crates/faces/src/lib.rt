@@ -10,6 +10,11 @@ ghost use Rattle.faces.specs.Faces.{alongOf, reachOf, withinOf, overOf, 
 
 pub mod prepared;
 
+use bodies::Checked;
+use bodies::Problem;
+use bodies::pose::Placement;
+use bodies::pose::Pose;
+use bodies::pose::placement_at;
 use geometry::Dir;
 use geometry::Point;
 use geometry::signed::Face;
@@ -19,16 +24,11 @@ use ieee::num::choose;
 use ieee::num::is_nan;
 use ieee::num::max;
 use ieee::num::min;
-use mechanism::Checked;
 use mechanism::FloatAnswer;
 use mechanism::Mechanism;
 use mechanism::Pairs;
-use mechanism::Problem;
 use mechanism::check::call_checked;
 use mechanism::pair::ContactPair;
-use mechanism::pose::Placement;
-use mechanism::pose::Pose;
-use mechanism::pose::placement_at;
 use sides::PlacedFace;
 use sides::SideFeatures;
 use sides::contacts::PairFeatures;

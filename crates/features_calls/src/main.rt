@@ -3,13 +3,13 @@
 // piece's letter, part and segment, then the floats. The files stdin and stdout beside this program were made by `oracle/features store`: the answers
 // are the Rust's.
 ghost use Prim.Native.Nat.{_≤_};
+use bodies::Checked;
+use bodies::Problem;
 use geometry::Dir;
 use geometry::Point;
 use geometry::signed::Disc;
 use geometry::signed::Face;
-use mechanism::Checked;
 use mechanism::Mechanism;
-use mechanism::Problem;
 use mechanism::features::Piece;
 use sides::PlacedDisc;
 use sides::PlacedFace;

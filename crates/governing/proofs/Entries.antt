@@ -15,8 +15,8 @@ use Rattle.laws.proofs.Choice.{both, cond-yes, cond-no}
 use Rattle.laws.proofs.Fill.{length-filled}
 use Rattle.laws.proofs.Writing.{sets-append}
 use Rattle.ieee.specs.Consts.{zeroF}
-use Rattle.mechanism.specs.declared.Checked.the-variants.{Accepted, Refused}
-use Rattle.mechanism.specs.declared.Problem.the-variants.{NoSuchThing}
+use Rattle.bodies.specs.declared.Checked.the-variants.{Accepted, Refused}
+use Rattle.bodies.specs.declared.Problem.the-variants.{NoSuchThing}
 use Rattle.governing.specs.Governing.{rowThere, rowEntries}
 
 -- ---- Of the c entries from `at` on the first k are copied.

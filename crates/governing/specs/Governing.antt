@@ -10,8 +10,8 @@ use lib.Ieee.{Float, nan, lt, eq}
 use Rattle.laws.specs.Fill.{filled}
 use Rattle.laws.specs.Loops.{foldIn}
 use Rattle.ieee.specs.Consts.{zeroF}
-use Rattle.mechanism.specs.declared.Checked.the-variants.{Accepted, Refused}
-use Rattle.mechanism.specs.declared.Problem.the-variants.{NoSuchThing}
+use Rattle.bodies.specs.declared.Checked.the-variants.{Accepted, Refused}
+use Rattle.bodies.specs.declared.Problem.the-variants.{NoSuchThing}
 use Rattle.governing.specs.declared.EntriesAnswer.{EntriesAnswer}
 use Rattle.governing.specs.declared.MaybeGap.{MaybeGap}
 use Rattle.governing.specs.declared.MaybeGap.the-variants.{SomeGap, NoGap}

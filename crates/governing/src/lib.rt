@@ -5,8 +5,8 @@ ghost use Prim.Native.Nat.{_≤_};
 ghost use lib.ListN.{length};
 ghost use Rattle.mechanism.specs.Rows.{pairIn, gapIn};
 ghost use Rattle.governing.specs.Governing.{governingOf, gapOf, lesser, recordsIn, numbered, rowThere, rowEntries};
-use mechanism::Checked;
-use mechanism::Problem;
+use bodies::Checked;
+use bodies::Problem;
 use mechanism::rows::Place;
 use mechanism::rows::Value;
 

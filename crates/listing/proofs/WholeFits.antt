@@ -6,12 +6,12 @@ use mathlib.Core.List.{List}
 use lib.ListN.{length, take}
 use lib.Seq.{sets, length-sets, length-take-le}
 use lib.Ieee.{Float}
-use Rattle.mechanism.specs.Check.{numberOf, placeOf}
-use Rattle.mechanism.specs.declared.Checked.{Checked}
-use Rattle.mechanism.specs.declared.Checked.the-variants.{Accepted, Refused}
+use Rattle.bodies.specs.Check.{numberOf, placeOf}
+use Rattle.bodies.specs.declared.Checked.{Checked}
+use Rattle.bodies.specs.declared.Checked.the-variants.{Accepted, Refused}
 use Rattle.mechanism.specs.declared.Mechanism.{Mechanism}
-use Rattle.mechanism.specs.declared.Problem.{Problem}
-use Rattle.mechanism.specs.declared.pose.Pose.{Pose}
+use Rattle.bodies.specs.declared.Problem.{Problem}
+use Rattle.bodies.specs.declared.pose.Pose.{Pose}
 use Rattle.shown_rows.specs.Rows.{rowsChecked}
 use Rattle.sheet.specs.Read.{sheetOf}
 use Rattle.sheet.specs.declared.Sheet.{Sheet}

@@ -18,21 +18,23 @@ use Rattle.laws.proofs.Loops.{join-turn, join-none, join-done}
 use Rattle.laws.proofs.Writing.{starts, goes-on, appends, ends, ends-count}
 use Rattle.laws.proofs.Fill.{map-take}
 use Rattle.ieee.specs.Consts.{zeroF}
-use Rattle.mechanism.specs.Check.{isAccepted, andThen, refusedIf, checkOf}
-use Rattle.mechanism.specs.Pose.{posedOf, poseChecked}
+use Rattle.bodies.specs.Check.{isAccepted, andThen, refusedIf}
+use Rattle.mechanism.specs.Check.{checkOf}
+use Rattle.bodies.specs.Pose.{posedOf}
+use Rattle.mechanism.specs.Pose.{poseChecked}
 use Rattle.mechanism.specs.Rows.{placeRow, valueRow}
-use Rattle.mechanism.specs.declared.Checked.{Checked}
-use Rattle.mechanism.specs.declared.Checked.the-variants.{Accepted, Refused}
+use Rattle.bodies.specs.declared.Checked.{Checked}
+use Rattle.bodies.specs.declared.Checked.the-variants.{Accepted, Refused}
 use Rattle.mechanism.specs.declared.Mechanism.{Mechanism}
-use Rattle.mechanism.specs.declared.Problem.{Problem}
-use Rattle.mechanism.specs.declared.Problem.the-variants.{PoseNotMatching}
-use Rattle.mechanism.specs.declared.pose.Entry.{Entry}
-use Rattle.mechanism.specs.declared.pose.Pose.{Pose}
-use Rattle.mechanism.specs.declared.pose.Posed.{Posed}
+use Rattle.bodies.specs.declared.Problem.{Problem}
+use Rattle.bodies.specs.declared.Problem.the-variants.{PoseNotMatching}
+use Rattle.bodies.specs.declared.pose.Entry.{Entry}
+use Rattle.bodies.specs.declared.pose.Pose.{Pose}
+use Rattle.bodies.specs.declared.pose.Posed.{Posed}
 use Rattle.mechanism.specs.declared.rows.Row.{Row}
 use Rattle.mechanism.proofs.Checks.{accepted-few}
-use Rattle.mechanism.proofs.Known.{array-length}
-use Rattle.mechanism.proofs.pose.Entry as E
+use Rattle.bodies.proofs.Known.{array-length}
+use Rattle.bodies.proofs.pose.Entry as E
 use Rattle.shown_rows.specs.Rows.{rowsOf, gradsOf, slipsOf, rowsChecked, ifAccepted}
 use Rattle.sheet.specs.Read.{refused, keptIf, writtenIn, sheetChecked, sheetOf}
 use Rattle.sheet.specs.declared.Sheet.{Sheet}

@@ -15,11 +15,11 @@ use Rattle.laws.specs.Loops.{joinIn}
 use Rattle.laws.proofs.Fill.{getD-filled}
 use Rattle.laws.proofs.Lists.{list-get}
 use Rattle.mechanism.specs.Rows.{placeRow, valueRow, pairIn}
-use Rattle.mechanism.specs.declared.Checked.{Checked}
-use Rattle.mechanism.specs.declared.Checked.the-variants.{Accepted}
+use Rattle.bodies.specs.declared.Checked.{Checked}
+use Rattle.bodies.specs.declared.Checked.the-variants.{Accepted}
 use Rattle.mechanism.specs.declared.Mechanism.{Mechanism}
 use Rattle.mechanism.specs.declared.features.Piece.the-variants.{Center}
-use Rattle.mechanism.specs.declared.pose.Pose.{Pose}
+use Rattle.bodies.specs.declared.pose.Pose.{Pose}
 use Rattle.mechanism.specs.declared.rows.Row.{Row}
 use Rattle.shown_rows.specs.Rows.{rowsOfPair, rowsOf, gradsOf, slipsOf, rowsChecked}
 use Rattle.shown_rows.proofs.AllPairs.{flat-long}

@@ -12,9 +12,9 @@ use Rattle.laws.specs.Lists.{flat, listIn}
 use Rattle.laws.proofs.Choice.{both}
 use Rattle.laws.proofs.Lists.{flat-short}
 use Rattle.geometry.specs.Geometry.{vectorOf}
-use Rattle.mechanism.specs.Pose.{poseFits}
-use Rattle.mechanism.specs.declared.Bodies.{Bodies}
-use Rattle.mechanism.specs.declared.Checked.the-variants.{Accepted}
+use Rattle.bodies.specs.Pose.{poseFits}
+use Rattle.bodies.specs.declared.Bodies.{Bodies}
+use Rattle.bodies.specs.declared.Checked.the-variants.{Accepted}
 use Rattle.mechanism.specs.declared.Mechanism.{Mechanism}
 use Rattle.mechanism.specs.declared.bearing.HowItBears.{HowItBears}
 use Rattle.mechanism.specs.declared.bearing.HowItBears.the-variants.{Flat, StopEdge, KeyCorner}
@@ -24,7 +24,7 @@ use Rattle.mechanism.specs.declared.bearing.MaybeSlope.{MaybeSlope}
 use Rattle.mechanism.specs.declared.bearing.MaybeSlope.the-variants.{SomeSlope, NoSlope}
 use Rattle.mechanism.specs.declared.features.Piece.{Piece}
 use Rattle.mechanism.specs.declared.features.Piece.the-variants.{Segment, Arc, Vertex, Center}
-use Rattle.mechanism.specs.declared.pose.Pose.{Pose}
+use Rattle.bodies.specs.declared.pose.Pose.{Pose}
 use Rattle.mechanism.specs.declared.rows.Row.{Row}
 use Rattle.mechanism.proofs.Checks.{call-accepted, accepted-few}
 use Rattle.sides.specs.Contacts.{mechanismBound}

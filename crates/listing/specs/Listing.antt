@@ -7,16 +7,17 @@ use lib.ListN.{length, getD, take, drop}
 use lib.Ieee.{Float}
 use Rattle.laws.specs.Lists.{flat}
 use Rattle.laws.specs.Loops.{joinIn}
-use Rattle.mechanism.specs.Check.{numberOf, placeOf}
-use Rattle.mechanism.specs.Pose.{posedOf, poseChecked}
+use Rattle.bodies.specs.Check.{numberOf, placeOf}
+use Rattle.bodies.specs.Pose.{posedOf}
+use Rattle.mechanism.specs.Pose.{poseChecked}
 use Rattle.mechanism.specs.Rows.{placeRow, valueRow, pairIn}
-use Rattle.mechanism.specs.declared.Checked.{Checked}
-use Rattle.mechanism.specs.declared.Checked.the-variants.{Accepted, Refused}
+use Rattle.bodies.specs.declared.Checked.{Checked}
+use Rattle.bodies.specs.declared.Checked.the-variants.{Accepted, Refused}
 use Rattle.mechanism.specs.declared.Mechanism.{Mechanism}
-use Rattle.mechanism.specs.declared.Problem.{Problem}
-use Rattle.mechanism.specs.declared.pose.Entry.{Entry}
-use Rattle.mechanism.specs.declared.pose.Pose.{Pose}
-use Rattle.mechanism.specs.declared.pose.Posed.{Posed}
+use Rattle.bodies.specs.declared.Problem.{Problem}
+use Rattle.bodies.specs.declared.pose.Entry.{Entry}
+use Rattle.bodies.specs.declared.pose.Pose.{Pose}
+use Rattle.bodies.specs.declared.pose.Posed.{Posed}
 use Rattle.mechanism.specs.declared.rows.Row.{Row}
 use Rattle.sheet.specs.Read.{sheetOf}
 use Rattle.sheet.specs.declared.Entries.{Entries}

@@ -3,41 +3,31 @@ use mathlib.Core.Path.{_≡_, refl, sym, ap, _∙_}
 use mathlib.Core.Bool.{Bool, true, false, false≢true, not, _&&_, _||_}
 use Prim.Native.Nat.{ℕ, _+_, _<_, _≤_}
 use native.Mathlib.Omega.{arith}
-use lib.Dec.{leb, ltb}
-use borrow.Author.Tests.{leb-true, ltb-false, lt-ltb, le-ltb}
-use Rattle.laws.proofs.Choice.{and-yes, and-no, or-no, neither, both, not-yes, not-no}
+use lib.Dec.{ltb, eqb}
+use borrow.Author.Tests.{ltb-false, lt-ltb, le-ltb}
+use Rattle.laws.proofs.Choice.{and-yes, and-no, or-no, neither, both, not-yes}
 use Rattle.laws.proofs.Finite.{any-none, any-all, first-none}
 use Rattle.laws.proofs.Sums.{sum-more, sum-mono}
+use Rattle.bodies.proofs.Checks.{stops, goes-on, stops-if, goes-on-if, refused-not, passed, passed-if, accepted-is, bodies-rooted}
+use Rattle.mechanism.specs.Pose.{poseChecked}
+use Rattle.bodies.specs.Pose.{bodiesPosed}
+use mathlib.Core.List.{List}
+use lib.Ieee.{Float}
+use lib.ListN.{length}
 use Rattle.mechanism.proofs.Worked as worked
-use Rattle.mechanism.specs.Description.{bodyAt, partAt, pairAt, segsOf, startOfPart, sideLength}
-use Rattle.mechanism.specs.Check.{isAccepted, andThen, refusedIf, sideOver, pairOver, partsOver, pairsOver, limitPassed, coordBelow, misplaced, bodiesChecked, directionMissing, partsChecked, partDraws, withDrawn, withRange, sideBody, sidesChecked, pairsChecked, checkOf, callChecked, bodiesStand, FewParts, FewPairs, Few}
-use Rattle.mechanism.specs.Pose.{Rooted}
+use Rattle.mechanism.specs.Description.{partAt, pairAt, segsOf, startOfPart, sideLength}
+use Rattle.bodies.specs.Check.{isAccepted, andThen, refusedIf, bodiesChecked, bodiesStand}
+use Rattle.mechanism.specs.Check.{sideOver, pairOver, partsOver, pairsOver, limitPassed, directionMissing, partsChecked, partDraws, withDrawn, withRange, sideBody, sidesChecked, pairsChecked, checkOf, callChecked, FewParts, FewPairs, Few}
+use Rattle.bodies.specs.Pose.{Rooted}
 use Rattle.mechanism.specs.declared.Parts.{Parts}
 use Rattle.mechanism.specs.declared.Pairs.{Pairs}
-use Rattle.mechanism.specs.declared.Bodies.{Bodies}
 use Rattle.mechanism.specs.declared.Mechanism.{Mechanism}
 use Rattle.mechanism.specs.declared.pair.Surface.{Surface}
 use Rattle.mechanism.specs.declared.part.SurfaceRef.{SurfaceRef}
 use Rattle.mechanism.specs.declared.check.Side.{Side}
-use Rattle.mechanism.specs.declared.Problem.{Problem}
-use Rattle.mechanism.specs.declared.Problem.the-variants.{LimitPassed, BodyNotPlaced, NoDirection, PoseNotMatching, NoSuchThing, TooFewRows}
-use Rattle.mechanism.specs.declared.Checked.{Checked}
-use Rattle.mechanism.specs.declared.Checked.the-variants.{Accepted, Refused}
-
--- ---- one check after the other
-pub stops : (c next : Checked) → isAccepted c ≡ false → andThen c next ≡ c
-stops Accepted next e = absurd (false≢true (sym e))
-stops (Refused p) next e = refl
-
-pub goes-on : (c next : Checked) → isAccepted c ≡ true → andThen c next ≡ next
-goes-on Accepted next e = refl
-goes-on (Refused p) next e = absurd (false≢true e)
-
-pub stops-if : {b : Bool} (p : Problem) (next : Checked) → b ≡ true → andThen (refusedIf b p) next ≡ Refused p
-stops-if p next e = ap (λ (b : Bool). andThen (refusedIf b p) next) e
-
-pub goes-on-if : {b : Bool} (p : Problem) (next : Checked) → b ≡ false → andThen (refusedIf b p) next ≡ next
-goes-on-if p next e = ap (λ (b : Bool). andThen (refusedIf b p) next) e
+use Rattle.bodies.specs.declared.Problem.the-variants.{LimitPassed, NoDirection, PoseNotMatching, NoSuchThing, TooFewRows}
+use Rattle.bodies.specs.declared.Checked.{Checked}
+use Rattle.bodies.specs.declared.Checked.the-variants.{Accepted, Refused}
 
 -- ---- no limit is passed
 pub few-parts : (p : Parts) → partsOver p ≡ false → FewParts p
@@ -147,12 +137,10 @@ module _ (m : Mechanism) where
       → isAccepted (partsChecked (m .bodies .count) (m .parts) (m .outlines)) ≡ true → checkOf m ≡ pairsChecked (m .parts) (m .pairs)
   at-pairs e f g h = past-directions e f g ∙ goes-on (partsChecked (m .bodies .count) (m .parts) (m .outlines)) (pairsChecked (m .parts) (m .pairs)) h
 
--- an answer that equals one of these checks, refused or accepted
-pub is-no : {r c : Checked} {b : Bool} → r ≡ c → b ≡ not (isAccepted r) → b ≡ true → isAccepted c ≡ false
-is-no {r} e f t = ap isAccepted (sym e) ∙ not-yes (isAccepted r) (sym f ∙ t)
-
-pub is-yes : {r c : Checked} {b : Bool} → r ≡ c → b ≡ not (isAccepted r) → b ≡ false → isAccepted c ≡ true
-is-yes {r} e f t = ap isAccepted (sym e) ∙ not-no (isAccepted r) (sym f ∙ t)
+-- where no limit is passed, the bodies by themselves are refused as 4 refuses them
+pub stand-is : (m : Mechanism) → limitPassed m ≡ false → bodiesStand (m .bodies) ≡ bodiesChecked (m .bodies)
+unfolding bodiesStand limitPassed
+stand-is m e = goes-on-if LimitPassed (bodiesChecked (m .bodies)) (neither (ltb 15 (m .bodies .count) || ltb 16 (m .bodies .coords)) (partsOver (m .parts) || pairsOver (m .pairs)) e .0)
 
 -- ---- where the list of a call ends
 module _ (m : Mechanism) (fits known room : Bool) where
@@ -184,22 +172,6 @@ module _ (m : Mechanism) (fits known room : Bool) where
   past-names e f g = past-pose e f ∙ goes-on-if NoSuchThing fromRoom g
 
 -- ---- what an accepted description is known to be
-refused-not : (p : Problem) → Refused p ≡ Accepted → ⊥
-refused-not p e = false≢true (ap isAccepted e)
-
--- two checks that accept together accept each, and a test that does not refuse holds
-passed : (c next : Checked) → andThen c next ≡ Accepted → (c ≡ Accepted) × (next ≡ Accepted)
-passed Accepted next e = (refl, e)
-passed (Refused p) next e = absurd (refused-not p e)
-
-passed-if : (b : Bool) (p : Problem) → refusedIf (not b) p ≡ Accepted → b ≡ true
-passed-if true p e = refl
-passed-if false p e = absurd (refused-not p e)
-
-no-refusal : (b : Bool) (p : Problem) → refusedIf b p ≡ Accepted → b ≡ false
-no-refusal true p e = absurd (refused-not p e)
-no-refusal false p e = refl
-
 -- a call that is not refused: its description is accepted, and all that it asks for is there
 pub call-accepted : (m : Mechanism) (fits known room : Bool) → callChecked m fits known room ≡ Accepted → (checkOf m ≡ Accepted) × (fits ≡ true) × (known ≡ true) × (room ≡ true)
 call-accepted m fits known room e =
@@ -207,33 +179,6 @@ call-accepted m fits known room e =
     let b = passed (refusedIf (not fits) PoseNotMatching) (fromNames m fits known room) (a .1) in
     let c = passed (refusedIf (not known) NoSuchThing) (fromRoom m fits known room) (b .1) in
     (a .0, passed-if fits PoseNotMatching (b .0), passed-if known NoSuchThing (c .0), passed-if room TooFewRows (c .1))
-
--- bodies that 4 does not refuse hang below themselves, on coordinates that are there
-module _ (b : Bodies) (few : b .count ≤ 15) (e : isAccepted (bodiesChecked b) ≡ true) where
-  body-pass : (i : ℕ) → i < b .count → misplaced (b .coords) (bodyAt b i) i ≡ false
-  unfolding bodiesChecked
-  body-pass i h = not-misplaced (misplaced (b .coords) (bodyAt b i) i) (first-none isAccepted Accepted _ (b .count) 0 e i (omega arith) (omega arith))
-    where
-      not-misplaced : (t : Bool) → isAccepted (refusedIf t (BodyNotPlaced (i + 1))) ≡ true → t ≡ false
-      not-misplaced true g = absurd (false≢true g)
-      not-misplaced false g = refl
-
-  bodies-rooted : Rooted b (b .coords)
-  bodies-rooted = record {
-    few = few;
-    below = λ i h. leb-true (bodyAt b i .parent) i (pass i h .0);
-    driven = λ i h. pass i h .1;
-  }
-    where
-      pass : (i : ℕ) → i < b .count → (leb (bodyAt b i .parent) i ≡ true) × (coordBelow (b .coords) (bodyAt b i .joint) ≡ true)
-      pass i h = both _ _ (not-no _ (body-pass i h))
-
-pub stand-rooted : (b : Bodies) → bodiesStand b ≡ Accepted → Rooted b (b .coords)
-unfolding bodiesStand
-stand-rooted b e =
-    let a = passed (refusedIf (ltb 15 (b .count) || ltb 16 (b .coords)) LimitPassed) (bodiesChecked b) e in
-    let n = neither (ltb 15 (b .count)) (ltb 16 (b .coords)) (no-refusal (ltb 15 (b .count) || ltb 16 (b .coords)) LimitPassed (a .0)) in
-    bodies-rooted b (ltb-false 15 (b .count) (n .0)) (ap isAccepted (a .1))
 
 module _ (m : Mechanism) (e : checkOf m ≡ Accepted) where
   no-limit : limitPassed m ≡ false
@@ -252,6 +197,9 @@ module _ (m : Mechanism) (e : checkOf m ≡ Accepted) where
       go : (b : Bool) → isAccepted (bodiesChecked (m .bodies)) ≡ b → b ≡ true
       go true h = refl
       go false h = absurd (false≢true (sym h ∙ ap isAccepted (sym (at-bodies m no-limit h) ∙ e)))
+
+  pub accepted-stand : bodiesStand (m .bodies) ≡ Accepted
+  accepted-stand = stand-is m no-limit ∙ accepted-is (bodiesChecked (m .bodies)) bodies-pass
 
   pub accepted-rooted : Rooted (m .bodies) (m .bodies .coords)
   accepted-rooted = bodies-rooted (m .bodies) (accepted-few .bodies) bodies-pass
@@ -282,3 +230,14 @@ module _ (m : Mechanism) (e : checkOf m ≡ Accepted) where
   pub accepted-pair : (i : ℕ) → i < m .pairs .count → isAccepted (sidesChecked i (sideBody (m .parts) i (pairAt (m .pairs) i .a)) (sideBody (m .parts) i (pairAt (m .pairs) i .b))) ≡ true
   unfolding pairsChecked
   accepted-pair i h = first-none isAccepted Accepted _ (m .pairs .count) 0 pairs-pass i (omega arith) (omega arith)
+
+-- ---- a pose of an accepted description is refused as one of its bodies by themselves
+fits-last : (t : Bool) → refusedIf (not t) PoseNotMatching ≡ andThen (refusedIf (not t) PoseNotMatching) (andThen (refusedIf (not true) NoSuchThing) (refusedIf (not true) TooFewRows))
+fits-last true = refl
+fits-last false = refl
+
+pub posed-bodies : (m : Mechanism) (q : List (List Float)) → checkOf m ≡ Accepted → bodiesPosed (m .bodies) q ≡ poseChecked m q
+posed-bodies m q e =
+    ap (λ (c : Checked). andThen c (refusedIf (not (eqb (length q) (m .bodies .coords))) PoseNotMatching)) (accepted-stand m e)
+    ∙ fits-last (eqb (length q) (m .bodies .coords))
+    ∙ ap (λ (c : Checked). andThen c (andThen (refusedIf (not (eqb (length q) (m .bodies .coords))) PoseNotMatching) (andThen (refusedIf (not true) NoSuchThing) (refusedIf (not true) TooFewRows)))) (sym e)

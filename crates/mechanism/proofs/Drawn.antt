@@ -8,11 +8,12 @@ use mathlib.Core.Bool.{Bool, true, false, false≢true, not, cond}
 use lib.Dec.{eqb}
 use Rattle.laws.proofs.Choice.{and-yes}
 use Rattle.laws.specs.Loops.{foldIn}
-use Rattle.mechanism.specs.Check.{isAccepted, rangeDrawn, isWrong, isOn, withDrawn, withRange, sideEnd, sideBody, sidesChecked, checkOf, sideOver, sideDrawn, pairDrawn}
+use Rattle.bodies.specs.Check.{isAccepted}
+use Rattle.mechanism.specs.Check.{rangeDrawn, isWrong, isOn, withDrawn, withRange, sideEnd, sideBody, sidesChecked, checkOf, sideOver, sideDrawn, pairDrawn}
 use Rattle.mechanism.specs.Description.{partAt, pairAt, rangeAt}
-use Rattle.mechanism.specs.declared.Checked.the-variants.{Accepted}
+use Rattle.bodies.specs.declared.Checked.the-variants.{Accepted}
 use Rattle.mechanism.specs.declared.Mechanism.{Mechanism}
-use Rattle.mechanism.specs.declared.Problem.the-variants.{SideOnTwoBodies}
+use Rattle.bodies.specs.declared.Problem.the-variants.{SideOnTwoBodies}
 use Rattle.mechanism.specs.declared.Parts.{Parts}
 use Rattle.mechanism.specs.declared.check.Side.{Side}
 use Rattle.mechanism.specs.declared.check.Side.the-variants.{Unknown, On, Wrong}

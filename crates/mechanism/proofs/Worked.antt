@@ -9,11 +9,13 @@ use Rattle.laws.specs.Loops.{anyIn, foldIn, firstIn}
 use Rattle.ieee.specs.Consts.{zeroF, oneF}
 use Rattle.geometry.specs.declared.Point.{Point}
 use Rattle.geometry.specs.declared.Seg.the-variants.{Line}
-use Rattle.mechanism.specs.Description.{noBody, noPart, noSeg, noRange, noSurface, noPair}
-use Rattle.mechanism.specs.Check.{partsOver, pairsOver, limitPassed, bodiesChecked, bodiesLack, partsLack, outlinesLack, outlineOpen, partsChecked, rangeDrawn, sideBody, pairsChecked, checkOf, callChecked}
-use Rattle.mechanism.specs.declared.Body.{Body}
-use Rattle.mechanism.specs.declared.Joint.the-variants.{Ground}
-use Rattle.mechanism.specs.declared.Bodies.{Bodies}
+use Rattle.bodies.specs.Description.{noBody}
+use Rattle.mechanism.specs.Description.{noPart, noSeg, noRange, noSurface, noPair}
+use Rattle.bodies.specs.Check.{bodiesChecked}
+use Rattle.mechanism.specs.Check.{partsOver, pairsOver, limitPassed, bodiesLack, partsLack, outlinesLack, outlineOpen, partsChecked, rangeDrawn, sideBody, pairsChecked, checkOf, callChecked}
+use Rattle.bodies.specs.declared.Body.{Body}
+use Rattle.bodies.specs.declared.Joint.the-variants.{Ground}
+use Rattle.bodies.specs.declared.Bodies.{Bodies}
 use Rattle.mechanism.specs.declared.Parts.{Parts}
 use Rattle.mechanism.specs.declared.Outlines.{Outlines}
 use Rattle.mechanism.specs.declared.Pairs.{Pairs}
@@ -26,8 +28,8 @@ use Rattle.mechanism.specs.declared.part.Sweep.the-variants.{Extruded, R
 use Rattle.mechanism.specs.declared.part.SurfaceRef.{SurfaceRef}
 use Rattle.mechanism.specs.declared.pair.Surface.{Surface}
 use Rattle.mechanism.specs.declared.pair.PairGeometry.the-variants.{Features}
-use Rattle.mechanism.specs.declared.Problem.the-variants.{BodyNotPlaced, PartOnNoSuchBody, OutlineNotClosed, RangeNotDrawn, PairOnOneBody, PoseNotMatching, NoSuchThing, TooFewRows}
-use Rattle.mechanism.specs.declared.Checked.the-variants.{Accepted, Refused}
+use Rattle.bodies.specs.declared.Problem.the-variants.{BodyNotPlaced, PartOnNoSuchBody, OutlineNotClosed, RangeNotDrawn, PairOnOneBody, PoseNotMatching, NoSuchThing, TooFewRows}
+use Rattle.bodies.specs.declared.Checked.the-variants.{Accepted, Refused}
 
 -- ---- the pieces
 -- a body fixed to the parent named

@@ -5,12 +5,9 @@ use mathlib.Core.List.{[]}
 use lib.ListN.{getD}
 use lib.Ieee.{nan}
 use Rattle.laws.specs.Loops.{foldIn}
-use Rattle.geometry.specs.declared.Point.{Point}
+use Rattle.bodies.specs.Description.{noPoint}
 use Rattle.geometry.specs.declared.Seg.{Seg}
 use Rattle.geometry.specs.declared.Seg.the-variants.{Line}
-use Rattle.mechanism.specs.declared.Body.{Body}
-use Rattle.mechanism.specs.declared.Joint.the-variants.{Ground}
-use Rattle.mechanism.specs.declared.Bodies.{Bodies}
 use Rattle.mechanism.specs.declared.Parts.{Parts}
 use Rattle.mechanism.specs.declared.Outlines.{Outlines}
 use Rattle.mechanism.specs.declared.Pairs.{Pairs}
@@ -25,12 +22,6 @@ use Rattle.mechanism.specs.declared.pair.ContactPair.{ContactPair}
 use Rattle.mechanism.specs.declared.pair.PairGeometry.the-variants.{Features}
 
 -- ---- what stands past a list's end
-abbrev pub noPoint : Point
-noPoint = record { x = nan; y = nan }
-
-abbrev pub noBody : Body
-noBody = record { parent = 0; joint = Ground }
-
 abbrev pub noPart : Part
 noPart = record { body = 0; segs = 0; sweep = Extruded nan nan; role = Solid }
 
@@ -47,10 +38,6 @@ abbrev pub noPair : ContactPair
 noPair = record { a = noSurface; b = noSurface; geometry = Features }
 
 -- ---- by number
--- body i + 1, as the ground is body 0
-abbrev pub bodyAt : Bodies → ℕ → Body
-bodyAt b i = getD (b .body) i noBody
-
 abbrev pub partAt : Parts → ℕ → Part
 partAt p i = getD (p .part) i noPart
 

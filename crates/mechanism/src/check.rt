@@ -3,21 +3,23 @@ ghost use mathlib.Core.Path.{_≡_};
 ghost use mathlib.Core.Bool.{not};
 ghost use Prim.Native.Nat.{_+_, _≤_, _<_};
 ghost use Rattle.mechanism.specs.Description.{startOfPart, silhouetteLength, rangeLength, turnedLength};
-ghost use Rattle.mechanism.specs.Check.{numberOf, placeOf, isAccepted, sideOver, pairOver, partsOver, pairsOver, limitPassed, coordBelow, misplaced, bodiesChecked, bodiesStand, noDir, jointLacks, sweepLacks, segLacks, bodiesLack, partsLack, outlinesLack, directionMissing, pointFinite, samePoint, segOpen, outlineOpen, partChecked, partsChecked, partDraws, isWrong, withBody, withDrawn, sideEnd, sideBody, sidesChecked, pairsChecked, checkOf, callChecked, isOn, sideDrawn, pairDrawn, FewParts, FewPairs, Few};
-use super::Bodies;
-use super::Body;
-use super::Checked;
-use super::Joint;
+ghost use Rattle.bodies.specs.Check.{isAccepted};
+ghost use Rattle.mechanism.specs.Check.{sideOver, pairOver, partsOver, pairsOver, limitPassed, noDir, jointLacks, sweepLacks, segLacks, bodiesLack, partsLack, outlinesLack, directionMissing, pointFinite, samePoint, segOpen, outlineOpen, partChecked, partsChecked, partDraws, isWrong, withBody, withDrawn, sideEnd, sideBody, sidesChecked, pairsChecked, checkOf, callChecked, isOn, sideDrawn, pairDrawn, FewParts, FewPairs, Few};
 use super::Mechanism;
 use super::Outlines;
 use super::Pairs;
 use super::Parts;
-use super::Problem;
 use super::pair::ContactPair;
 use super::pair::Surface;
 use super::part::Part;
 use super::part::SurfaceRef;
 use super::part::Sweep;
+use bodies::Bodies;
+use bodies::Body;
+use bodies::Checked;
+use bodies::Joint;
+use bodies::Problem;
+use bodies::check::bodies_stand;
 use geometry::Dir;
 use geometry::MaybeDir;
 use geometry::Point;
@@ -25,50 +27,6 @@ use geometry::Seg;
 use ieee::num::is_finite;
 use ieee::num::is_nan;
 use ieee::num::same;
-
-impl Problem {
-    // Document 01's number of the refusal.
-    pub fn number(self) -> usize
-        ensures { λ r. ⌜ r ≡ numberOf self ⌝ }
-    {
-        match self {
-            Problem::TextTooLong => 1,
-            Problem::LineNotRead { line: _ } => 2,
-            Problem::LimitPassed => 3,
-            Problem::BodyNotPlaced { body: _ } => 4,
-            Problem::NoDirection => 5,
-            Problem::PartOnNoSuchBody { part: _ } => 6,
-            Problem::OutlineNotClosed { part: _ } => 7,
-            Problem::RangeNotDrawn { pair: _ } => 8,
-            Problem::SideOnTwoBodies { pair: _ } => 9,
-            Problem::PairOnOneBody { pair: _ } => 10,
-            Problem::PoseNotMatching => 11,
-            Problem::NoSuchThing => 12,
-            Problem::TooFewRows => 13,
-        }
-    }
-
-    // Its place, 0 where it has none.
-    pub fn place(self) -> usize
-        ensures { λ r. ⌜ r ≡ placeOf self ⌝ }
-    {
-        match self {
-            Problem::TextTooLong => 0,
-            Problem::LineNotRead { line } => line,
-            Problem::LimitPassed => 0,
-            Problem::BodyNotPlaced { body } => body,
-            Problem::NoDirection => 0,
-            Problem::PartOnNoSuchBody { part } => part,
-            Problem::OutlineNotClosed { part } => part,
-            Problem::RangeNotDrawn { pair } => pair,
-            Problem::SideOnTwoBodies { pair } => pair,
-            Problem::PairOnOneBody { pair } => pair,
-            Problem::PoseNotMatching => 0,
-            Problem::NoSuchThing => 0,
-            Problem::TooFewRows => 0,
-        }
-    }
-}
 
 // ---- 3: a count passes its limit
 
@@ -154,58 +112,6 @@ fn limit_passed(m: Mechanism) -> bool
     let p = m.parts;
     let q = m.pairs;
     ((15 < b.count) | (16 < b.coords)) | (parts_over(p) | pairs_over(q))
-}
-
-// ---- 4: a body's parent is not below it, or its coordinate is not below the count
-
-fn coord_below(n: usize, j: Joint) -> bool
-    ensures { λ r. ⌜ r ≡ coordBelow n j ⌝ }
-{
-    match j {
-        Joint::Ground => true,
-        Joint::Revolute { pivot: _, coord } => coord < n,
-        Joint::Prismatic {
-            origin: _,
-            axis: _,
-            coord,
-        } => coord < n,
-    }
-}
-
-// Body i + 1.
-fn is_misplaced(coords: usize, b: Body, i: usize) -> bool
-    ensures { λ r. ⌜ r ≡ misplaced coords b i ⌝ }
-{
-    let j = b.joint;
-    !((b.parent <= i) & coord_below(coords, j))
-}
-
-fn bodies_checked(b: Bodies) -> Checked
-    requires { ⌜ b .count ≤ 15 ⌝ }
-    ensures { λ r. ⌜ r ≡ bodiesChecked b ⌝ }
-{
-    let n = b.count;
-    let coords = b.coords;
-    let mut i: usize = 0;
-    while i < n {
-        let k = i;
-        let c = b.body[k];
-        i += 1;
-        if is_misplaced(coords, c, k) {
-            return Checked::Refused(Problem::BodyNotPlaced { body: i });
-        }
-    }
-    Checked::Accepted
-}
-
-// 3 and 4 of the bodies by themselves.
-pub fn bodies_stand(b: Bodies) -> Checked
-    ensures { λ r. ⌜ r ≡ bodiesStand b ⌝ }
-{
-    if (15 < b.count) | (16 < b.coords) {
-        return Checked::Refused(Problem::LimitPassed);
-    }
-    bodies_checked(b)
 }
 
 // ---- 5: an axis or an arc's direction has no `Dir::new`, or a revolved axis is NaN
@@ -603,7 +509,7 @@ pub fn check(m: Mechanism) -> Checked
         return Checked::Refused(Problem::LimitPassed);
     }
     let b = m.bodies;
-    let placed = bodies_checked(b);
+    let placed = bodies_stand(b);
     if is_refused(placed) {
         return placed;
     }

@@ -11,18 +11,19 @@ use Rattle.laws.proofs.Choice.{cond-yes, cond-no, both}
 use borrow.Author.Tests.{ltb-true}
 use Rattle.ieee.specs.Consts.{zeroF}
 use Rattle.ieee.specs.Num.{maxOf}
-use Rattle.mechanism.specs.Check.{FewParts, checkOf, callChecked, isAccepted, answerOf, pairDrawn}
+use Rattle.bodies.specs.Check.{isAccepted}
+use Rattle.mechanism.specs.Check.{FewParts, checkOf, callChecked, answerOf, pairDrawn}
 use Rattle.mechanism.specs.Description.{pairAt}
-use Rattle.mechanism.specs.Pose.{poseFits}
-use Rattle.mechanism.specs.declared.Checked.{Checked}
-use Rattle.mechanism.specs.declared.Checked.the-variants.{Accepted, Refused}
+use Rattle.bodies.specs.Pose.{poseFits}
+use Rattle.bodies.specs.declared.Checked.{Checked}
+use Rattle.bodies.specs.declared.Checked.the-variants.{Accepted, Refused}
 use Rattle.mechanism.specs.declared.FloatAnswer.the-variants.{IsFloat, NoFloat}
 use Rattle.mechanism.specs.declared.Mechanism.{Mechanism}
 use Rattle.mechanism.specs.declared.Outlines.{Outlines}
 use Rattle.mechanism.specs.declared.Parts.{Parts}
-use Rattle.mechanism.specs.declared.Problem.{Problem}
+use Rattle.bodies.specs.declared.Problem.{Problem}
 use Rattle.mechanism.specs.declared.pair.ContactPair.{ContactPair}
-use Rattle.mechanism.specs.declared.pose.Pose.{Pose}
+use Rattle.bodies.specs.declared.pose.Pose.{Pose}
 use Rattle.mechanism.proofs.Checks.{accepted-few, at-description, at-pose, at-names}
 use Rattle.mechanism.proofs.Drawn.{accepted-pair-drawn}
 use Rattle.overlap.specs.Overlap.{pairOverlap, pairOverlapAt, pairOverlapAnswer, overlapOf, overlapAnswer, allParts, partsOverlap, partsOverlapAnswer}

@@ -13,9 +13,9 @@ use Rattle.ieee.specs.Consts.{zeroF}
 use Rattle.ieee.specs.Num.{maxOf}
 use Rattle.ieee.specs.Root.{rootOf}
 use Rattle.geometry.specs.declared.Point.{Point}
-use Rattle.mechanism.specs.Pose.{placementAt, worldOf}
-use Rattle.mechanism.specs.declared.pose.Placement.{Placement}
-use Rattle.mechanism.specs.declared.pose.Pose.{Pose}
+use Rattle.bodies.specs.Pose.{placementAt, worldOf}
+use Rattle.bodies.specs.declared.pose.Placement.{Placement}
+use Rattle.bodies.specs.declared.pose.Pose.{Pose}
 use Rattle.material.specs.Material.{Material, squareDepth, deepestOf, deepestSquare}
 use Rattle.material.proofs.Squares.{PlainNumber, zero-root, deepest-root, deepest-plain}
 use Rattle.strips.specs.Strips.{partAt, pointAt}

@@ -12,7 +12,7 @@ use borrow.Author.Tests.{le-leb}
 use Rattle.laws.specs.Lists.{flat}
 use Rattle.laws.proofs.Choice.{and-yes, cond-yes}
 use Rattle.geometry.specs.declared.Point.{Point}
-use Rattle.mechanism.specs.declared.pose.Pose.{Pose}
+use Rattle.bodies.specs.declared.pose.Pose.{Pose}
 use Rattle.material.specs.Material.{Material, materialOf, depthOf}
 use Rattle.strips.proofs.Bounds.{at-most-small}
 use Rattle.drawing.specs.Drawing.{rowOf, same, rowsOf, startsOf, countsOf}

@@ -18,7 +18,7 @@ use Rattle.geometry.specs.declared.Point.{Point}
 use Rattle.mechanism.specs.Check.{FewParts, partsOver}
 use Rattle.mechanism.specs.declared.Outlines.{Outlines}
 use Rattle.mechanism.specs.declared.Parts.{Parts}
-use Rattle.mechanism.specs.declared.pose.Pose.{Pose}
+use Rattle.bodies.specs.declared.pose.Pose.{Pose}
 use Rattle.mechanism.proofs.Checks.{parts-few}
 use Rattle.material.specs.Material.{Edge, Material, pointsOf, materialOf, depthOf, deepestOf}
 use Rattle.drawing.specs.Drawing.{rowOf, same, rowsOf, startsOf, solidsOf, cutsOf, chosenMaterial, roomFor, countsOf}

@@ -18,7 +18,7 @@ use Rattle.mechanism.specs.Check.{FewParts}
 use Rattle.mechanism.specs.Description.{partAt}
 use Rattle.mechanism.specs.declared.Outlines.{Outlines}
 use Rattle.mechanism.specs.declared.Parts.{Parts}
-use Rattle.mechanism.specs.declared.pose.Pose.{Pose}
+use Rattle.bodies.specs.declared.pose.Pose.{Pose}
 use Rattle.silhouette.specs.Silhouette.{inTheSection}
 use Rattle.material.specs.Material.{Material, deepestOf}
 use Rattle.material.proofs.Sets.{Within, Same, any-sets, deepest-sets}

@@ -12,9 +12,9 @@ use Rattle.laws.proofs.Choice.{cond-yes, cond-no}
 use Rattle.ieee.specs.Consts.{zeroF}
 use Rattle.ieee.specs.Num.{maxOf}
 use Rattle.geometry.specs.declared.Point.{Point}
-use Rattle.mechanism.specs.Pose.{placementAt, worldOf}
-use Rattle.mechanism.specs.declared.pose.Placement.{Placement}
-use Rattle.mechanism.specs.declared.pose.Pose.{Pose}
+use Rattle.bodies.specs.Pose.{placementAt, worldOf}
+use Rattle.bodies.specs.declared.pose.Placement.{Placement}
+use Rattle.bodies.specs.declared.pose.Pose.{Pose}
 use Rattle.material.specs.Material.{Material, depthOf, deepestOf}
 use Rattle.strips.specs.Strips.{sideAt, pointAt, rowA, rowB, rowOfMaterial, rowOfSampled}
 use Rattle.strips.specs.declared.SideFacts.{SideFacts}

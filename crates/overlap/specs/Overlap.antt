@@ -11,7 +11,7 @@ use Rattle.ieee.specs.Consts.{zeroF}
 use Rattle.ieee.specs.Num.{maxOf}
 use Rattle.mechanism.specs.Check.{callChecked, answerOf, pairDrawn}
 use Rattle.mechanism.specs.Description.{partAt, pairAt}
-use Rattle.mechanism.specs.Pose.{placementAt, worldOf, poseFits}
+use Rattle.bodies.specs.Pose.{placementAt, worldOf, poseFits}
 use Rattle.mechanism.specs.declared.FloatAnswer.{FloatAnswer}
 use Rattle.mechanism.specs.declared.Mechanism.{Mechanism}
 use Rattle.mechanism.specs.declared.Outlines.{Outlines}
@@ -20,7 +20,7 @@ use Rattle.mechanism.specs.declared.pair.ContactPair.{ContactPair}
 use Rattle.mechanism.specs.declared.pair.PairGeometry.{PairGeometry}
 use Rattle.mechanism.specs.declared.pair.PairGeometry.the-variants.{Features, CenterBearing}
 use Rattle.mechanism.specs.declared.pair.Surface.{Surface}
-use Rattle.mechanism.specs.declared.pose.Pose.{Pose}
+use Rattle.bodies.specs.declared.pose.Pose.{Pose}
 use Rattle.material.specs.Material.{Edge, Material, depthOf, deepestOf}
 use Rattle.drawing.specs.Drawing.{isSampled, isReadCut, polygonOf, polygonsOf, isOwn, bodyOfSide, sideMaterial}
 use Rattle.drawing.specs.Samples.{mouthsOf, partSamples}

@@ -9,8 +9,8 @@ use Rattle.laws.specs.Loops.{filterIn}
 use Rattle.ieee.specs.Consts.{zeroF}
 use Rattle.ieee.specs.Num.{maxOf}
 use Rattle.geometry.specs.declared.Point.{Point}
-use Rattle.mechanism.specs.Pose.{placementAt, worldOf}
-use Rattle.mechanism.specs.declared.pose.Pose.{Pose}
+use Rattle.bodies.specs.Pose.{placementAt, worldOf}
+use Rattle.bodies.specs.declared.pose.Pose.{Pose}
 use Rattle.material.specs.Material.{Material, depthOf, deepestOf}
 use Rattle.strips.specs.Strips.{partAt, sideAt, pointAt, rowA, rowB, rowOfMaterial, rowOfSampled}
 use Rattle.drawing.specs.Drawing.{chosenAs}

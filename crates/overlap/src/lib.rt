@@ -16,6 +16,9 @@ ghost use Rattle.overlap.specs.Overlap.{sunkBy, sunkOf, ownerIn, feature
 
 pub mod prepared;
 
+use bodies::Checked;
+use bodies::pose::Pose;
+use bodies::pose::placement_at;
 use drawing::Chosen;
 use drawing::Polygons;
 use drawing::draw;
@@ -32,7 +35,6 @@ use ieee::num::max;
 use material::Spot;
 use material::deepest;
 use material::depth;
-use mechanism::Checked;
 use mechanism::FloatAnswer;
 use mechanism::Mechanism;
 use mechanism::Outlines;
@@ -43,8 +45,6 @@ use mechanism::check::pair_drawn;
 use mechanism::pair::ContactPair;
 use mechanism::pair::PairGeometry;
 use mechanism::pair::Surface;
-use mechanism::pose::Pose;
-use mechanism::pose::placement_at;
 use sides::center_of;
 
 // Which parts are sampled.

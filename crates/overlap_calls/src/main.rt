@@ -3,17 +3,17 @@
 // parts: none, the first, the second with the first between, the even ones, the odd ones, one too many. The files stdin and stdout beside this program were
 // made by `oracle/overlaps store`: the answers are the Rust's.
 ghost use Prim.Native.Nat.{_≤_};
-use mechanism::Bodies;
-use mechanism::Checked;
+use bodies::Bodies;
+use bodies::Checked;
+use bodies::Problem;
+use bodies::pose::Entry;
+use bodies::pose::Placement;
+use bodies::pose::Pose;
+use bodies::pose::Posed;
 use mechanism::FloatAnswer;
 use mechanism::Mechanism;
 use mechanism::Pairs;
 use mechanism::Parts;
-use mechanism::Problem;
-use mechanism::pose::Entry;
-use mechanism::pose::Placement;
-use mechanism::pose::Pose;
-use mechanism::pose::Posed;
 use sheet::Entries;
 
 // A number of at most six digits, with one more digit after it.

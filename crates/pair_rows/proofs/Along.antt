@@ -14,14 +14,14 @@ use Rattle.laws.specs.Lists.{foldl}
 use Rattle.laws.proofs.Lists.{foldl-append}
 use Rattle.silhouette.proofs.Known.{array-length}
 use Rattle.geometry.specs.declared.Point.{Point}
-use Rattle.mechanism.specs.Pose.{columnsOf, columnsIn}
-use Rattle.mechanism.specs.declared.Bodies.{Bodies}
-use Rattle.mechanism.specs.declared.pose.Column.{Column}
-use Rattle.mechanism.specs.declared.pose.Columns.{Columns}
-use Rattle.mechanism.specs.declared.pose.Pose.{Pose}
-use Rattle.mechanism.proofs.Walk.{few-columns, columns-fit, taken}
-use Rattle.mechanism.proofs.pose.Column as C
-use Rattle.mechanism.proofs.pose.Columns as K
+use Rattle.bodies.specs.Pose.{columnsOf, columnsIn}
+use Rattle.bodies.specs.declared.Bodies.{Bodies}
+use Rattle.bodies.specs.declared.pose.Column.{Column}
+use Rattle.bodies.specs.declared.pose.Columns.{Columns}
+use Rattle.bodies.specs.declared.pose.Pose.{Pose}
+use Rattle.bodies.proofs.Walk.{few-columns, columns-fit, taken}
+use Rattle.bodies.proofs.pose.Column as C
+use Rattle.bodies.proofs.pose.Columns as K
 use Rattle.ieee.specs.Consts.{zeroF}
 use Rattle.ieee.specs.Operators.{_⊕_, _⊖_}
 use Rattle.geometry.specs.Signed.{dotOf}

@@ -11,8 +11,8 @@ use lib.ListN.{length}
 use borrow.Author.Tests.{le-leb, leb-true}
 use Rattle.laws.specs.Lists.{flat}
 use Rattle.laws.proofs.Choice.{and-yes, cond-yes, cond-no, both}
-use Rattle.mechanism.specs.declared.Bodies.{Bodies}
-use Rattle.mechanism.specs.declared.pose.Pose.{Pose}
+use Rattle.bodies.specs.declared.Bodies.{Bodies}
+use Rattle.bodies.specs.declared.pose.Pose.{Pose}
 use Rattle.pair_rows.specs.PairRows.{Room, roomBehind, PutShown}
 use Rattle.pair_rows.specs.declared.Source.{Source}
 

@@ -12,11 +12,11 @@ use Rattle.ieee.specs.Consts.{zeroF}
 use Rattle.ieee.specs.Operators.{_⊕_, _⊖_}
 use Rattle.geometry.specs.Signed.{dotOf}
 use Rattle.geometry.specs.declared.Point.{Point}
-use Rattle.mechanism.specs.Pose.{columnsOf}
+use Rattle.bodies.specs.Pose.{columnsOf}
 use Rattle.mechanism.specs.Rows.{gapIn}
-use Rattle.mechanism.specs.declared.Bodies.{Bodies}
-use Rattle.mechanism.specs.declared.pose.Column.{Column}
-use Rattle.mechanism.specs.declared.pose.Pose.{Pose}
+use Rattle.bodies.specs.declared.Bodies.{Bodies}
+use Rattle.bodies.specs.declared.pose.Column.{Column}
+use Rattle.bodies.specs.declared.pose.Pose.{Pose}
 use Rattle.showing.specs.Showing.{shown}
 use Rattle.pair_rows.specs.declared.Source.{Source}
 

@@ -11,13 +11,13 @@ ghost use Rattle.ieee.specs.Consts.{zeroF};
 ghost use Rattle.mechanism.specs.Rows.{gapIn};
 ghost use Rattle.showing.specs.Showing.{hides, hidden, shows, within};
 ghost use Rattle.pair_rows.specs.PairRows.{decidesIn, alikeIn, alikeRows, outdoesBy, addInto, subFrom, gradIn, slipIn, Room, roomBehind, shownIn, PutShown};
+use bodies::Bodies;
+use bodies::pose::Column;
+use bodies::pose::Columns;
+use bodies::pose::Pose;
+use bodies::pose::columns_at;
 use geometry::Point;
 use ieee::num::is_nan;
-use mechanism::Bodies;
-use mechanism::pose::Column;
-use mechanism::pose::Columns;
-use mechanism::pose::Pose;
-use mechanism::pose::columns_at;
 use mechanism::rows::Place;
 use mechanism::rows::Value;
 

@@ -10,18 +10,23 @@
 // A refusal prints X, its number and its place. The files stdin and stdout beside this program were made by `oracle/poses store 600 1`:
 // the calls are chosen there, and the answers are the Rust's.
 ghost use Prim.Native.Nat.{_<_, _≤_};
+use bodies::Bodies;
+use bodies::Body;
+use bodies::Checked;
+use bodies::Joint;
+use bodies::Problem;
+use bodies::pose::Entry;
+use bodies::pose::MaterialPoint;
+use bodies::pose::Placement;
+use bodies::pose::PointAnswer;
+use bodies::pose::Pose;
 use geometry::Dir;
 use geometry::Point;
 use geometry::Seg;
-use mechanism::Bodies;
-use mechanism::Body;
-use mechanism::Checked;
-use mechanism::Joint;
 use mechanism::Mechanism;
 use mechanism::Outlines;
 use mechanism::Pairs;
 use mechanism::Parts;
-use mechanism::Problem;
 use mechanism::pair::ContactPair;
 use mechanism::pair::PairGeometry;
 use mechanism::pair::Surface;
@@ -30,11 +35,6 @@ use mechanism::part::Part;
 use mechanism::part::Role;
 use mechanism::part::SurfaceRef;
 use mechanism::part::Sweep;
-use mechanism::pose::Entry;
-use mechanism::pose::MaterialPoint;
-use mechanism::pose::Placement;
-use mechanism::pose::PointAnswer;
-use mechanism::pose::Pose;
 
 // The fields of a line.
 struct Fields {
@@ -258,7 +258,7 @@ fn placements(q: Pose) {
 }
 
 // The pose for the first n of the lent entries.
-fn pose_of(m: Mechanism, q: &[[f64; 3]], n: usize) -> mechanism::pose::Posed {
+fn pose_of(m: Mechanism, q: &[[f64; 3]], n: usize) -> bodies::pose::Posed {
     if n < q.len() {
         return m.pose(&q[..n]);
     }
@@ -266,7 +266,7 @@ fn pose_of(m: Mechanism, q: &[[f64; 3]], n: usize) -> mechanism::pose::Posed {
 }
 
 // The pose of what was read.
-fn posed(s: State) -> mechanism::pose::Posed {
+fn posed(s: State) -> bodies::pose::Posed {
     let b = s.bodies;
     let q = lent(s);
     let n = s.entries;

@@ -17,7 +17,7 @@ use Rattle.mechanism.specs.Description.{partAt}
 use Rattle.mechanism.specs.declared.Outlines.{Outlines}
 use Rattle.mechanism.specs.declared.Parts.{Parts}
 use Rattle.mechanism.specs.declared.pair.Surface.{Surface}
-use Rattle.mechanism.specs.declared.pose.Pose.{Pose}
+use Rattle.bodies.specs.declared.pose.Pose.{Pose}
 use Rattle.material.specs.Material.{Material, deepestOf}
 use Rattle.drawing.specs.Drawing.{isOwn, isSampled, chosenAs}
 use Rattle.drawing.specs.Samples.{mouthsOf, partSamples}

@@ -14,20 +14,23 @@ use Rattle.laws.specs.Loops.{anyIn}
 use Rattle.laws.proofs.Choice.{or-no}
 use Rattle.laws.proofs.Finite.{any-all}
 use Rattle.laws.proofs.Sums.{sum-same}
-use Rattle.mechanism.specs.Check.{isAccepted, andThen, refusedIf, limitPassed, bodiesChecked, checkOf, bodiesStand}
+use Rattle.bodies.specs.Check.{isAccepted, andThen, refusedIf, bodiesChecked, bodiesStand}
+use Rattle.mechanism.specs.Check.{limitPassed, checkOf}
 use Rattle.mechanism.specs.Description.{pairAt}
-use Rattle.mechanism.specs.Pose.{bodiesPosed, poseChecked}
+use Rattle.bodies.specs.Pose.{bodiesPosed}
+use Rattle.mechanism.specs.Pose.{poseChecked}
 use Rattle.mechanism.specs.Rows.{placeRow, valueRow, gapIn}
 use Rattle.mechanism.specs.Rows as Rows
-use Rattle.mechanism.specs.declared.Checked.{Checked}
-use Rattle.mechanism.specs.declared.Checked.the-variants.{Accepted, Refused}
+use Rattle.bodies.specs.declared.Checked.{Checked}
+use Rattle.bodies.specs.declared.Checked.the-variants.{Accepted, Refused}
 use Rattle.mechanism.specs.declared.Mechanism.{Mechanism}
-use Rattle.mechanism.specs.declared.Problem.{Problem}
-use Rattle.mechanism.specs.declared.Problem.the-variants.{LimitPassed, PoseNotMatching, NoSuchThing, TooFewRows}
+use Rattle.bodies.specs.declared.Problem.{Problem}
+use Rattle.bodies.specs.declared.Problem.the-variants.{LimitPassed, PoseNotMatching, NoSuchThing, TooFewRows}
 use Rattle.mechanism.specs.declared.bearing.MaybeBearing.{MaybeBearing}
-use Rattle.mechanism.specs.declared.pose.Pose.{Pose}
+use Rattle.bodies.specs.declared.pose.Pose.{Pose}
 use Rattle.mechanism.specs.declared.rows.Row.{Row}
-use Rattle.mechanism.proofs.Checks.{accepted-few, goes-on, goes-on-if}
+use Rattle.bodies.proofs.Checks.{goes-on, goes-on-if}
+use Rattle.mechanism.proofs.Checks.{accepted-few}
 use Rattle.sides.specs.Contacts.{pairBound, mechanismBound}
 use Rattle.sides.specs.declared.contacts.PairFeatures.{PairFeatures}
 use Rattle.strips.specs.Strips.{sideAt, rowA, rowB}

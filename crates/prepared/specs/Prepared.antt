@@ -3,10 +3,11 @@ use Prim.Native.Nat.{ℕ}
 use mathlib.Core.Path.{_≡_}
 use mathlib.Core.List.{List}
 use lib.Ieee.{Float}
-use Rattle.mechanism.specs.Check.{andThen}
-use Rattle.mechanism.specs.Pose.{bodiesPosed, poseChecked}
+use Rattle.bodies.specs.Check.{andThen}
+use Rattle.bodies.specs.Pose.{bodiesPosed}
+use Rattle.mechanism.specs.Pose.{poseChecked}
 use Rattle.mechanism.specs.declared.Mechanism.{Mechanism}
-use Rattle.mechanism.specs.declared.pose.Pose.{Pose}
+use Rattle.bodies.specs.declared.pose.Pose.{Pose}
 use Rattle.sides.specs.Contacts.{mechanismBound}
 use Rattle.shown_rows.specs.Rows.{rowsOf, gradsOf, slipsOf, rowsChecked}
 use Rattle.prepared_rows.specs.Prepared.{allRows, allGrads, allSlips, boundsIn, preparedChecked}

@@ -8,7 +8,7 @@ use lib.Ieee.{Float}
 use lib.ListN.{length, length-append}
 use borrow.Author.Tests.{le-leb, lt-leb}
 use Rattle.laws.proofs.Choice.{and-yes, cond-yes, cond-no}
-use Rattle.mechanism.specs.declared.pose.Pose.{Pose}
+use Rattle.bodies.specs.declared.pose.Pose.{Pose}
 use Rattle.strips.proofs.Bounds.{at-most-small}
 use Rattle.drawing.specs.Drawing.{rowsOf}
 use Rattle.drawing.specs.Prepared.{allDrawn, solidsIn, cutsIn, materialIn, materialOr, roomIn}

@@ -11,10 +11,10 @@ use Rattle.laws.specs.Lists.{flat}
 use Rattle.laws.proofs.Choice.{cond-yes, cond-no}
 use Rattle.laws.proofs.Fill.{take-filled}
 use Rattle.geometry.specs.declared.Point.{Point}
-use Rattle.mechanism.specs.Pose.{placementAt, worldOf}
+use Rattle.bodies.specs.Pose.{placementAt, worldOf}
 use Rattle.mechanism.specs.declared.features.Piece.{Piece}
 use Rattle.mechanism.specs.declared.features.Piece.the-variants as Piece
-use Rattle.mechanism.specs.declared.pose.Pose.{Pose}
+use Rattle.bodies.specs.declared.pose.Pose.{Pose}
 use Rattle.sides.specs.Features.{sideFrom, noFace, noDisc}
 use Rattle.sides.specs.declared.PlacedDisc.{PlacedDisc}
 use Rattle.sides.specs.declared.PlacedFace.{PlacedFace}

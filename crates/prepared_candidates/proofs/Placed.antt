@@ -20,7 +20,7 @@ use Rattle.geometry.specs.declared.signed.Face.{Face}
 use Rattle.mechanism.specs.declared.features.Piece.{Piece}
 use Rattle.sides.specs.declared.PlacedDisc.{PlacedDisc}
 use Rattle.sides.specs.declared.PlacedFace.{PlacedFace}
-use Rattle.mechanism.specs.declared.pose.Placement.{Placement}
+use Rattle.bodies.specs.declared.pose.Placement.{Placement}
 use Rattle.material.specs.Material.{Material}
 use Rattle.strips.specs.Strips.{faceAt, discAt, pieceAt, faceFrom, discFrom, faceRow, discRow, facesFrom, discsFrom}
 use Rattle.drawing.proofs.Lays.{list-length}

@@ -4,8 +4,8 @@ use mathlib.Core.Bool.{Bool, cond, _&&_}
 use mathlib.Core.List.{List, map}
 use lib.Dec.{leb, eqb}
 use lib.Ieee.{Float}
-use Rattle.mechanism.specs.Pose.{placementAt}
-use Rattle.mechanism.specs.declared.pose.Pose.{Pose}
+use Rattle.bodies.specs.Pose.{placementAt}
+use Rattle.bodies.specs.declared.pose.Pose.{Pose}
 use Rattle.sides.specs.declared.PlacedDisc.{PlacedDisc}
 use Rattle.sides.specs.declared.PlacedFace.{PlacedFace}
 use Rattle.material.specs.Material.{Material}

@@ -13,14 +13,14 @@ use borrow.Author.Tests.{le-leb, leb-true, ltb-false}
 use Rattle.laws.specs.Loops.{anyIn}
 use Rattle.laws.proofs.Choice.{and-yes, cond-yes, both, neither}
 use Rattle.geometry.specs.Geometry.{vectorOf}
-use Rattle.mechanism.specs.Check.{andThen, refusedIf, isAccepted, bodiesStand}
+use Rattle.bodies.specs.Check.{andThen, refusedIf, isAccepted, bodiesStand}
 use Rattle.mechanism.specs.Rows.{placeRow, valueRow}
-use Rattle.mechanism.specs.declared.Bodies.{Bodies}
-use Rattle.mechanism.specs.declared.Checked.{Checked}
-use Rattle.mechanism.specs.declared.Checked.the-variants.{Accepted, Refused}
-use Rattle.mechanism.specs.declared.Problem.{Problem}
-use Rattle.mechanism.specs.declared.Problem.the-variants.{LimitPassed, PoseNotMatching, NoSuchThing, TooFewRows}
-use Rattle.mechanism.specs.declared.pose.Pose.{Pose}
+use Rattle.bodies.specs.declared.Bodies.{Bodies}
+use Rattle.bodies.specs.declared.Checked.{Checked}
+use Rattle.bodies.specs.declared.Checked.the-variants.{Accepted, Refused}
+use Rattle.bodies.specs.declared.Problem.{Problem}
+use Rattle.bodies.specs.declared.Problem.the-variants.{LimitPassed, PoseNotMatching, NoSuchThing, TooFewRows}
+use Rattle.bodies.specs.declared.pose.Pose.{Pose}
 use Rattle.mechanism.specs.declared.rows.Row.{Row}
 use Rattle.sides.specs.declared.contacts.PairFeatures.{PairFeatures}
 use Rattle.strips.specs.Strips.{sideAt, rowA, rowB, pairIn, factsFrom}

@@ -6,12 +6,12 @@ use lib.Dec.{leb, ltb, eqb}
 use lib.Ieee.{Float}
 use Rattle.laws.specs.Lists.{listIn, flat}
 use Rattle.laws.specs.Loops.{anyIn}
-use Rattle.mechanism.specs.Check.{andThen, refusedIf, bodiesStand}
+use Rattle.bodies.specs.Check.{andThen, refusedIf, bodiesStand}
 use Rattle.mechanism.specs.Description.{sumIn}
-use Rattle.mechanism.specs.declared.Bodies.{Bodies}
-use Rattle.mechanism.specs.declared.Checked.{Checked}
-use Rattle.mechanism.specs.declared.Problem.the-variants.{LimitPassed, PoseNotMatching, NoSuchThing, TooFewRows}
-use Rattle.mechanism.specs.declared.pose.Pose.{Pose}
+use Rattle.bodies.specs.declared.Bodies.{Bodies}
+use Rattle.bodies.specs.declared.Checked.{Checked}
+use Rattle.bodies.specs.declared.Problem.the-variants.{LimitPassed, PoseNotMatching, NoSuchThing, TooFewRows}
+use Rattle.bodies.specs.declared.pose.Pose.{Pose}
 use Rattle.mechanism.specs.declared.rows.Row.{Row}
 use Rattle.strips.specs.Strips.{sideAt, rowA, rowB, pairIn}
 use Rattle.prepared_candidates.specs.Prepared.{boundIn, candidatesFrom}

@@ -21,9 +21,9 @@ use Rattle.geometry.specs.declared.signed.MaybeProximity.{MaybeProximity}
 use Rattle.geometry.specs.declared.signed.MaybeProximity.the-variants.{SomeProximity, NoProximity}
 use Rattle.geometry.specs.declared.signed.Proximity.{Proximity}
 use Rattle.mechanism.specs.Piece.{letterOf, partOf, segOf}
-use Rattle.mechanism.specs.Pose.{isWorld, rotateOf, worldOf}
+use Rattle.bodies.specs.Pose.{isWorld, rotateOf, worldOf}
 use Rattle.mechanism.specs.declared.features.Piece.{Piece}
-use Rattle.mechanism.specs.declared.pose.Placement.{Placement}
+use Rattle.bodies.specs.declared.pose.Placement.{Placement}
 use Rattle.material.specs.Material.{Material, holdsOf, depthOf}
 use Rattle.sides.specs.declared.PlacedDisc.{PlacedDisc}
 use Rattle.sides.specs.declared.PlacedFace.{PlacedFace}

@@ -6,6 +6,7 @@ ghost use lib.ListN.{length};
 ghost use Rattle.geometry.specs.Signed.{discOnFace, centerOnFace, onA, onB};
 ghost use Rattle.material.specs.Material.{materialOf};
 ghost use Rattle.proximities.specs.Proximities.{turnedOf, worldFace, worldDisc, isDeep, realOf, centerReal, keptIf, exchanged, readingAt, foundDeep, Written};
+use bodies::pose::Placement;
 use drawing::Polygons;
 use geometry::Dir;
 use geometry::Point;
@@ -20,7 +21,6 @@ use mechanism::features::Piece;
 use mechanism::features::letter;
 use mechanism::features::part;
 use mechanism::features::seg;
-use mechanism::pose::Placement;
 use mechanism::rows::Place;
 use mechanism::rows::Value;
 

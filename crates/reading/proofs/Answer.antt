@@ -11,14 +11,14 @@ use Rattle.laws.specs.Fill.{filled}
 use Rattle.laws.proofs.Lists.{list-same}
 use Rattle.mechanism.specs.Check.{checkOf}
 use Rattle.mechanism.specs.Description.{pairAt}
-use Rattle.mechanism.specs.Pose.{poseFits}
+use Rattle.bodies.specs.Pose.{poseFits}
 use Rattle.mechanism.specs.Rows.{placeRow, valueRow}
-use Rattle.mechanism.specs.declared.Checked.{Checked}
-use Rattle.mechanism.specs.declared.Checked.the-variants.{Accepted, Refused}
+use Rattle.bodies.specs.declared.Checked.{Checked}
+use Rattle.bodies.specs.declared.Checked.the-variants.{Accepted, Refused}
 use Rattle.mechanism.specs.declared.Mechanism.{Mechanism}
-use Rattle.mechanism.specs.declared.Problem.{Problem}
+use Rattle.bodies.specs.declared.Problem.{Problem}
 use Rattle.mechanism.specs.declared.bearing.MaybeBearing.{MaybeBearing}
-use Rattle.mechanism.specs.declared.pose.Pose.{Pose}
+use Rattle.bodies.specs.declared.pose.Pose.{Pose}
 use Rattle.mechanism.specs.declared.rows.Row.{Row}
 use Rattle.mechanism.proofs.Checks.{call-accepted}
 use Rattle.overlap.specs.Overlap.{pairOverlap}

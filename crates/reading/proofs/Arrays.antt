@@ -12,7 +12,7 @@ use lib.Ieee.{Float, nan, lt}
 use Rattle.laws.specs.Loops.{foldIn}
 use Rattle.mechanism.specs.Rows.{placeRow, valueRow, rowIn, pairIn, gapIn}
 use Rattle.mechanism.specs.declared.bearing.MaybeBearing.{MaybeBearing}
-use Rattle.mechanism.specs.declared.pose.Pose.{Pose}
+use Rattle.bodies.specs.declared.pose.Pose.{Pose}
 use Rattle.mechanism.specs.declared.rows.Row.{Row}
 use Rattle.sides.specs.declared.contacts.PairFeatures.{PairFeatures}
 use Rattle.pair_rows.proofs.Store.{sets-get}

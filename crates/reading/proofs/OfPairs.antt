@@ -19,13 +19,13 @@ use Rattle.ieee.specs.Consts.{zeroF}
 use Rattle.mechanism.specs.Check.{pairDrawn}
 use Rattle.mechanism.specs.Description.{pairAt}
 use Rattle.mechanism.specs.Rows.{pairIn, gapIn}
-use Rattle.mechanism.specs.declared.Checked.the-variants.{Accepted}
+use Rattle.bodies.specs.declared.Checked.the-variants.{Accepted}
 use Rattle.mechanism.specs.declared.Outlines.{Outlines}
 use Rattle.mechanism.specs.declared.Pairs.{Pairs}
 use Rattle.mechanism.specs.declared.Parts.{Parts}
 use Rattle.mechanism.specs.declared.bearing.MaybeBearing.{MaybeBearing}
 use Rattle.mechanism.specs.declared.pair.ContactPair.{ContactPair}
-use Rattle.mechanism.specs.declared.pose.Pose.{Pose}
+use Rattle.bodies.specs.declared.pose.Pose.{Pose}
 use Rattle.sides.specs.Contacts.{pairFeatures, pairFeaturesAt}
 use Rattle.sides.specs.declared.contacts.PairFeatures.{PairFeatures}
 use Rattle.overlap.specs.Overlap.{pairOverlap, pairOverlapAt}

@@ -14,17 +14,17 @@ use Rattle.laws.specs.Lists.{listIn}
 use Rattle.laws.specs.Loops.{Writing}
 use Rattle.laws.proofs.Lists.{list-turn, list-done, list-same}
 use Rattle.laws.proofs.Writing.{starts, puts, ends}
-use Rattle.mechanism.specs.Check.{andThen, refusedIf}
-use Rattle.mechanism.specs.Pose.{bodiesPosed, posedOf}
+use Rattle.bodies.specs.Check.{andThen, refusedIf}
+use Rattle.bodies.specs.Pose.{bodiesPosed, posedOf}
 use Rattle.mechanism.specs.Rows.{placeRow, valueRow}
-use Rattle.mechanism.specs.declared.Bodies.{Bodies}
-use Rattle.mechanism.specs.declared.Checked.{Checked}
-use Rattle.mechanism.specs.declared.Checked.the-variants.{Accepted, Refused}
-use Rattle.mechanism.specs.declared.Problem.{Problem}
-use Rattle.mechanism.specs.declared.Problem.the-variants.{LimitPassed}
+use Rattle.bodies.specs.declared.Bodies.{Bodies}
+use Rattle.bodies.specs.declared.Checked.{Checked}
+use Rattle.bodies.specs.declared.Checked.the-variants.{Accepted, Refused}
+use Rattle.bodies.specs.declared.Problem.{Problem}
+use Rattle.bodies.specs.declared.Problem.the-variants.{LimitPassed}
 use Rattle.mechanism.specs.declared.bearing.MaybeBearing.{MaybeBearing}
-use Rattle.mechanism.specs.declared.pose.Pose.{Pose}
-use Rattle.mechanism.specs.declared.pose.Posed.{Posed}
+use Rattle.bodies.specs.declared.pose.Pose.{Pose}
+use Rattle.bodies.specs.declared.pose.Posed.{Posed}
 use Rattle.mechanism.specs.declared.rows.Row.{Row}
 use Rattle.strips.specs.Strips.{pairIn}
 use Rattle.overlap.specs.Prepared.{pairOverlapIn}

@@ -6,15 +6,15 @@ use lib.ListN.{length}
 use lib.Ieee.{Float}
 use Rattle.laws.specs.Fill.{filled}
 use Rattle.laws.specs.Lists.{listIn}
-use Rattle.mechanism.specs.Check.{andThen, refusedIf}
-use Rattle.mechanism.specs.Pose.{bodiesPosed, posedOf}
+use Rattle.bodies.specs.Check.{andThen, refusedIf}
+use Rattle.bodies.specs.Pose.{bodiesPosed, posedOf}
 use Rattle.mechanism.specs.Rows.{placeRow, valueRow, gapIn}
 use Rattle.mechanism.specs.Rows as Rows
-use Rattle.mechanism.specs.declared.Bodies.{Bodies}
-use Rattle.mechanism.specs.declared.Checked.{Checked}
-use Rattle.mechanism.specs.declared.Checked.the-variants.{Accepted, Refused}
-use Rattle.mechanism.specs.declared.Problem.the-variants.{LimitPassed}
-use Rattle.mechanism.specs.declared.pose.Pose.{Pose}
+use Rattle.bodies.specs.declared.Bodies.{Bodies}
+use Rattle.bodies.specs.declared.Checked.{Checked}
+use Rattle.bodies.specs.declared.Checked.the-variants.{Accepted, Refused}
+use Rattle.bodies.specs.declared.Problem.the-variants.{LimitPassed}
+use Rattle.bodies.specs.declared.pose.Pose.{Pose}
 use Rattle.mechanism.specs.declared.rows.Row.{Row}
 use Rattle.strips.specs.Strips.{pairIn}
 use Rattle.overlap.specs.Prepared.{pairOverlapIn}

@@ -8,12 +8,12 @@ use Rattle.laws.specs.Lists.{listIn}
 use Rattle.ieee.specs.Consts.{zeroF}
 use Rattle.mechanism.specs.Description.{pairAt}
 use Rattle.mechanism.specs.Rows.{placeRow, valueRow, pairIn, gapIn}
-use Rattle.mechanism.specs.declared.Checked.{Checked}
-use Rattle.mechanism.specs.declared.Checked.the-variants.{Accepted, Refused}
+use Rattle.bodies.specs.declared.Checked.{Checked}
+use Rattle.bodies.specs.declared.Checked.the-variants.{Accepted, Refused}
 use Rattle.mechanism.specs.declared.Mechanism.{Mechanism}
 use Rattle.mechanism.specs.declared.bearing.MaybeBearing.{MaybeBearing}
 use Rattle.mechanism.specs.declared.bearing.MaybeBearing.the-variants.{NoBearing}
-use Rattle.mechanism.specs.declared.pose.Pose.{Pose}
+use Rattle.bodies.specs.declared.pose.Pose.{Pose}
 use Rattle.mechanism.specs.declared.rows.Row.{Row}
 use Rattle.overlap.specs.Overlap.{pairOverlap}
 use Rattle.faces.specs.Faces.{sidesOverlap}

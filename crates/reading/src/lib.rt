@@ -8,7 +8,7 @@ ghost use lib.Seq.{sets};
 ghost use Rattle.laws.specs.Fill.{filled};
 ghost use Rattle.mechanism.specs.Check.{checkOf, pairDrawn};
 ghost use Rattle.mechanism.specs.Rows.{placeRow, valueRow, pairIn, gapIn};
-ghost use Rattle.mechanism.specs.declared.Checked.the-variants.{Accepted, Refused};
+ghost use Rattle.bodies.specs.declared.Checked.the-variants.{Accepted, Refused};
 ghost use Rattle.sides.specs.Contacts.{pairFeatures};
 ghost use Rattle.overlap.specs.Overlap.{pairOverlap};
 ghost use Rattle.faces.specs.Faces.{sidesOverlap};
@@ -20,16 +20,16 @@ ghost use Rattle.reading.specs.Reading.{pairReadings, noPairReading, rea
 pub mod prepared;
 
 use bearings::governed;
+use bodies::Checked;
+use bodies::Problem;
+use bodies::pose::Pose;
 use faces::sides_overlap;
-use mechanism::Checked;
 use mechanism::Mechanism;
 use mechanism::Outlines;
 use mechanism::Pairs;
 use mechanism::Parts;
-use mechanism::Problem;
 use mechanism::bearing::MaybeBearing;
 use mechanism::pair::ContactPair;
-use mechanism::pose::Pose;
 use mechanism::rows::Place;
 use mechanism::rows::Value;
 use overlap::pair_overlap_at;

@@ -1,19 +1,19 @@
 // For bench/run: reads a sheet text behind its length in six decimal digits and a newline, prepares it, then reads requests of two numbers in the same form, what is asked
 // and how often, until the second is zero: 0 asks for the whole reading, 1 for `pair_overlap` of one pair after the other at one pose. Prints the bits of the sum of the answers of each request.
 ghost use Prim.Native.Nat.{_≤_};
-use mechanism::Bodies;
-use mechanism::Checked;
+use bodies::Bodies;
+use bodies::Checked;
+use bodies::Problem;
+use bodies::pose::Entry;
+use bodies::pose::Lent;
+use bodies::pose::Placement;
+use bodies::pose::Pose;
+use bodies::pose::Posed;
 use mechanism::Mechanism;
 use mechanism::Pairs;
 use mechanism::Parts;
-use mechanism::Problem;
 use mechanism::bearing::Bearing;
 use mechanism::bearing::MaybeBearing;
-use mechanism::pose::Entry;
-use mechanism::pose::Lent;
-use mechanism::pose::Placement;
-use mechanism::pose::Pose;
-use mechanism::pose::Posed;
 use mechanism::rows::Place;
 use mechanism::rows::Value;
 use overlap::prepared::pair_overlap_in;

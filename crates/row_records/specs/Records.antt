@@ -7,12 +7,12 @@ use lib.ListN.{length, getD}
 use lib.Ieee.{Float, nan, lt}
 use Rattle.laws.specs.Lists.{listIn}
 use Rattle.mechanism.specs.Check.{callChecked}
-use Rattle.mechanism.specs.Pose.{poseFits}
+use Rattle.bodies.specs.Pose.{poseFits}
 use Rattle.mechanism.specs.declared.Mechanism.{Mechanism}
 use Rattle.mechanism.specs.declared.bearing.MaybeBearing.{MaybeBearing}
 use Rattle.mechanism.specs.declared.bearing.MaybeBearing.the-variants.{NoBearing}
 use Rattle.mechanism.specs.declared.features.Piece.the-variants.{Segment}
-use Rattle.mechanism.specs.declared.pose.Pose.{Pose}
+use Rattle.bodies.specs.declared.pose.Pose.{Pose}
 use Rattle.mechanism.specs.declared.rows.Row.{Row}
 use Rattle.sides.specs.Contacts.{pairFeatures}
 use Rattle.sides.specs.declared.contacts.PairFeatures.{PairFeatures}

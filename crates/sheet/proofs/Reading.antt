@@ -11,10 +11,10 @@ use lib.ListN.{length, take, drop, set}
 use lib.Seq.{sets}
 use Rattle.laws.proofs.Choice.{cond-yes, cond-no}
 use Rattle.mechanism.specs.declared.part.OutlineSeg.{OutlineSeg}
-use Rattle.mechanism.specs.declared.Problem.{Problem}
-use Rattle.mechanism.specs.declared.Problem.the-variants.{LineNotRead, LimitPassed}
-use Rattle.mechanism.specs.declared.Checked.{Checked}
-use Rattle.mechanism.specs.declared.Checked.the-variants.{Accepted, Refused}
+use Rattle.bodies.specs.declared.Problem.{Problem}
+use Rattle.bodies.specs.declared.Problem.the-variants.{LineNotRead, LimitPassed}
+use Rattle.bodies.specs.declared.Checked.{Checked}
+use Rattle.bodies.specs.declared.Checked.the-variants.{Accepted, Refused}
 use Rattle.mechanism.specs.Check.{checkOf}
 use Rattle.text.specs.Lists.{foldOf}
 use Rattle.text.specs.Pieces.{split, pieceEnd}

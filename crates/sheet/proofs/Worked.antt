@@ -10,15 +10,15 @@ use Rattle.ieee.specs.Root.{rootOf}
 use Rattle.geometry.specs.Geometry.{dirOf}
 use Rattle.geometry.specs.declared.Point.{Point}
 use Rattle.geometry.specs.declared.Seg.the-variants.{Line}
-use Rattle.mechanism.specs.declared.Joint.the-variants.{Prismatic}
+use Rattle.bodies.specs.declared.Joint.the-variants.{Prismatic}
 use Rattle.mechanism.specs.declared.part.Part.{Part}
 use Rattle.mechanism.specs.declared.part.Role.the-variants.{Solid}
 use Rattle.mechanism.specs.declared.part.Sweep.the-variants.{Extruded}
 use Rattle.mechanism.specs.declared.part.OutlineSeg.{OutlineSeg}
 use Rattle.mechanism.specs.declared.pair.Surface.{Surface}
 use Rattle.mechanism.specs.declared.pair.PairGeometry.the-variants.{Features}
-use Rattle.mechanism.specs.declared.Problem.the-variants.{LineNotRead, LimitPassed}
-use Rattle.mechanism.specs.declared.Checked.the-variants.{Accepted}
+use Rattle.bodies.specs.declared.Problem.the-variants.{LineNotRead, LimitPassed}
+use Rattle.bodies.specs.declared.Checked.the-variants.{Accepted}
 use Rattle.text.specs.Bytes.{bytes}
 use Rattle.text.specs.Lists.{allOf, foldOf}
 use Rattle.text.specs.Pieces.{onto, split}

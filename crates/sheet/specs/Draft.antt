@@ -8,8 +8,8 @@ use lib.Ieee.{Float, nan}
 use Rattle.ieee.specs.Consts.{zeroF}
 use Rattle.geometry.specs.declared.Point.{Point}
 use Rattle.geometry.specs.declared.Seg.the-variants.{Line}
-use Rattle.mechanism.specs.declared.Body.{Body}
-use Rattle.mechanism.specs.declared.Joint.the-variants.{Ground}
+use Rattle.bodies.specs.declared.Body.{Body}
+use Rattle.bodies.specs.declared.Joint.the-variants.{Ground}
 use Rattle.mechanism.specs.declared.part.Part.{Part}
 use Rattle.mechanism.specs.declared.part.Role.{Role}
 use Rattle.mechanism.specs.declared.part.Role.the-variants.{Solid}
@@ -21,7 +21,7 @@ use Rattle.mechanism.specs.declared.pair.Surface.{Surface}
 use Rattle.mechanism.specs.declared.pair.ContactPair.{ContactPair}
 use Rattle.mechanism.specs.declared.pair.PairGeometry.{PairGeometry}
 use Rattle.mechanism.specs.declared.pair.PairGeometry.the-variants.{Features}
-use Rattle.mechanism.specs.declared.pose.Entry.{Entry}
+use Rattle.bodies.specs.declared.pose.Entry.{Entry}
 use Rattle.text.specs.declared.records.Record.{Record}
 use Rattle.text.specs.declared.records.Record.the-variants.{Coords, Joined, Drawn, Edge, Paired, OnA, OnB, Margin, Turned, Malformed}
 use Rattle.sheet.specs.declared.Entries.{Entries}

@@ -7,11 +7,12 @@ use lib.Dec.{ltb, eqb}
 use lib.ListN.{length}
 use lib.Seq.{sets}
 use Rattle.mechanism.specs.declared.part.OutlineSeg.{OutlineSeg}
-use Rattle.mechanism.specs.declared.Problem.{Problem}
-use Rattle.mechanism.specs.declared.Problem.the-variants.{TextTooLong, LineNotRead, LimitPassed, PoseNotMatching}
-use Rattle.mechanism.specs.declared.Checked.{Checked}
-use Rattle.mechanism.specs.declared.Checked.the-variants.{Accepted, Refused}
-use Rattle.mechanism.specs.Check.{andThen, refusedIf, checkOf}
+use Rattle.bodies.specs.declared.Problem.{Problem}
+use Rattle.bodies.specs.declared.Problem.the-variants.{TextTooLong, LineNotRead, LimitPassed, PoseNotMatching}
+use Rattle.bodies.specs.declared.Checked.{Checked}
+use Rattle.bodies.specs.declared.Checked.the-variants.{Accepted, Refused}
+use Rattle.bodies.specs.Check.{andThen, refusedIf}
+use Rattle.mechanism.specs.Check.{checkOf}
 use Rattle.text.specs.Lists.{foldOf}
 use Rattle.text.specs.Pieces.{split, fieldsOf}
 use Rattle.text.specs.Records.{recordOf}

@@ -1,10 +1,11 @@
 // The description, put together line by line. The tally of the lines before a line says where it goes.
 use super::Entries;
 use super::limits::Tally;
+use bodies::Body;
+use bodies::Joint;
+use bodies::pose::Entry;
 use geometry::Point;
 use geometry::Seg;
-use mechanism::Body;
-use mechanism::Joint;
 use mechanism::pair::ContactPair;
 use mechanism::pair::PairGeometry;
 use mechanism::pair::Surface;
@@ -13,7 +14,6 @@ use mechanism::part::Part;
 use mechanism::part::Role;
 use mechanism::part::SurfaceRef;
 use mechanism::part::Sweep;
-use mechanism::pose::Entry;
 use text::records::Record;
 ghost use mathlib.Core.Path.{_≡_};
 ghost use Prim.Native.Nat.{_-_, _<_, _≤_};

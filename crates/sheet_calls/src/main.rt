@@ -2,8 +2,8 @@
 // (document 01's 1 to 11), else `accepted`. The files stdin and stdout beside this program were made by `oracle/texts`: the answers are those of the
 // oracle's own reader and of the Rust.
 ghost use Prim.Native.Nat.{_≤_};
-use mechanism::Checked;
-use mechanism::Problem;
+use bodies::Checked;
+use bodies::Problem;
 
 // A number of at most six digits, with one more digit after it.
 fn tens(v: usize, b: u8) -> usize

@@ -1,6 +1,6 @@
 // Reads a sheet text from standard input and prints X,number,place where it is refused (document 01's 1 to 11), else `accepted`.
-use mechanism::Checked;
-use mechanism::Problem;
+use bodies::Checked;
+use bodies::Problem;
 
 fn print_problem(p: Problem) {
     io::write_all(1, b"X,");

@@ -15,9 +15,9 @@ use Rattle.laws.specs.Lists.{flat}
 use Rattle.laws.specs.Loops.{anyIn, filterIn}
 use Rattle.laws.proofs.Lists.{filter-same, flat-map}
 use Rattle.ieee.specs.Consts.{zeroF}
-use Rattle.mechanism.specs.declared.Bodies.{Bodies}
+use Rattle.bodies.specs.declared.Bodies.{Bodies}
 use Rattle.mechanism.specs.declared.features.Piece.{Piece}
-use Rattle.mechanism.specs.declared.pose.Pose.{Pose}
+use Rattle.bodies.specs.declared.pose.Pose.{Pose}
 use Rattle.showing.specs.Showing.{deepF, within, hides, shows, shown}
 use Rattle.sides.specs.declared.contacts.PairFeatures.{PairFeatures}
 use Rattle.proximities.specs.Proximities.{nearRow, namedRow, Written}

@@ -12,14 +12,15 @@ use lib.Seq.{sets}
 use borrow.Author.Tests.{leb-true}
 use Rattle.mechanism.specs.Rows.{placeRow, valueRow}
 use Rattle.laws.proofs.Choice.{both}
-use Rattle.mechanism.specs.Check.{isAccepted, andThen, refusedIf, checkOf, callChecked}
-use Rattle.mechanism.specs.Pose.{poseFits}
-use Rattle.mechanism.specs.declared.Checked.{Checked}
-use Rattle.mechanism.specs.declared.Checked.the-variants.{Accepted, Refused}
+use Rattle.bodies.specs.Check.{isAccepted, andThen, refusedIf}
+use Rattle.mechanism.specs.Check.{checkOf, callChecked}
+use Rattle.bodies.specs.Pose.{poseFits}
+use Rattle.bodies.specs.declared.Checked.{Checked}
+use Rattle.bodies.specs.declared.Checked.the-variants.{Accepted, Refused}
 use Rattle.mechanism.specs.declared.Mechanism.{Mechanism}
-use Rattle.mechanism.specs.declared.Problem.{Problem}
-use Rattle.mechanism.specs.declared.Problem.the-variants.{PoseNotMatching, NoSuchThing, TooFewRows}
-use Rattle.mechanism.specs.declared.pose.Pose.{Pose}
+use Rattle.bodies.specs.declared.Problem.{Problem}
+use Rattle.bodies.specs.declared.Problem.the-variants.{PoseNotMatching, NoSuchThing, TooFewRows}
+use Rattle.bodies.specs.declared.pose.Pose.{Pose}
 use Rattle.mechanism.proofs.Checks.{call-accepted, accepted-few}
 use Rattle.sides.specs.Contacts.{mechanismBound}
 use Rattle.shown_rows.specs.declared.RowsAnswer.{RowsAnswer}

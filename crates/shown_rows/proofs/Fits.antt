@@ -12,20 +12,21 @@ use Rattle.laws.specs.Lists.{flat}
 use Rattle.laws.proofs.Choice.{both}
 use Rattle.laws.proofs.Finite.{first-none}
 use Rattle.laws.proofs.Lists.{flat-short}
-use Rattle.mechanism.specs.Check.{isAccepted, andThen, refusedIf, limitPassed, bodiesChecked, directionMissing, partChecked, partsChecked, checkOf, partDraws}
+use Rattle.bodies.specs.Check.{isAccepted, andThen, refusedIf, bodiesChecked}
+use Rattle.mechanism.specs.Check.{limitPassed, directionMissing, partChecked, partsChecked, checkOf, partDraws}
 use Rattle.mechanism.specs.Description.{pairAt, partAt, rangeAt, startOfPart}
-use Rattle.mechanism.specs.declared.Checked.{Checked}
-use Rattle.mechanism.specs.declared.Checked.the-variants.{Accepted, Refused}
+use Rattle.bodies.specs.declared.Checked.{Checked}
+use Rattle.bodies.specs.declared.Checked.the-variants.{Accepted, Refused}
 use Rattle.mechanism.specs.declared.Mechanism.{Mechanism}
 use Rattle.mechanism.specs.declared.Outlines.{Outlines}
 use Rattle.mechanism.specs.declared.Parts.{Parts}
-use Rattle.mechanism.specs.declared.Problem.{Problem}
-use Rattle.mechanism.specs.declared.Problem.the-variants.{LimitPassed, NoDirection, PartOnNoSuchBody}
+use Rattle.bodies.specs.declared.Problem.{Problem}
+use Rattle.bodies.specs.declared.Problem.the-variants.{LimitPassed, NoDirection, PartOnNoSuchBody}
 use Rattle.mechanism.specs.declared.pair.ContactPair.{ContactPair}
 use Rattle.mechanism.specs.declared.pair.PairGeometry.{PairGeometry}
 use Rattle.mechanism.specs.declared.pair.PairGeometry.the-variants.{Features, CenterBearing}
 use Rattle.mechanism.specs.declared.pair.Surface.{Surface}
-use Rattle.mechanism.specs.declared.pose.Pose.{Pose}
+use Rattle.bodies.specs.declared.pose.Pose.{Pose}
 use Rattle.mechanism.proofs.Drawn.{RangesDrawn, accepted-ranges-a, accepted-ranges-b}
 use Rattle.drawing.specs.Drawing.{bodyOfSide, sideMaterial}
 use Rattle.sides.specs.Bounds.{rowBound}

@@ -14,14 +14,14 @@ use Rattle.laws.proofs.Finite.{filter-length}
 use Rattle.laws.proofs.Choice.{and-yes, cond-yes}
 use Rattle.mechanism.specs.Check.{pairDrawn, checkOf}
 use Rattle.mechanism.specs.Description.{pairAt}
-use Rattle.mechanism.specs.declared.Checked.the-variants.{Accepted}
+use Rattle.bodies.specs.declared.Checked.the-variants.{Accepted}
 use Rattle.mechanism.specs.declared.Mechanism.{Mechanism}
 use Rattle.mechanism.proofs.Drawn.{accepted-pair-drawn}
-use Rattle.mechanism.specs.declared.Bodies.{Bodies}
+use Rattle.bodies.specs.declared.Bodies.{Bodies}
 use Rattle.mechanism.specs.declared.Outlines.{Outlines}
 use Rattle.mechanism.specs.declared.Parts.{Parts}
 use Rattle.mechanism.specs.declared.pair.ContactPair.{ContactPair}
-use Rattle.mechanism.specs.declared.pose.Pose.{Pose}
+use Rattle.bodies.specs.declared.pose.Pose.{Pose}
 use Rattle.drawing.specs.Drawing.{bodyOfSide}
 use Rattle.showing.specs.Showing.{shown}
 use Rattle.sides.specs.Bounds.{rowBound}

@@ -8,7 +8,7 @@ use Rattle.laws.specs.Lists.{listIn, flat}
 use Rattle.laws.proofs.Sums.{sum-first}
 use Rattle.mechanism.specs.Description.{pairAt, sumIn}
 use Rattle.mechanism.specs.declared.Mechanism.{Mechanism}
-use Rattle.mechanism.specs.declared.pose.Pose.{Pose}
+use Rattle.bodies.specs.declared.pose.Pose.{Pose}
 use Rattle.mechanism.specs.declared.rows.Row.{Row}
 use Rattle.sides.specs.Contacts.{pairBound, mechanismBound}
 use Rattle.shown_rows.specs.Rows.{rowsOfPair, rowsOf}

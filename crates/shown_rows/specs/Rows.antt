@@ -10,17 +10,17 @@ use Rattle.geometry.specs.Geometry.{vectorOf}
 use Rattle.mechanism.specs.Check.{callChecked}
 use Rattle.mechanism.specs.Description.{pairAt}
 use Rattle.mechanism.specs.Piece.{samePiece}
-use Rattle.mechanism.specs.Pose.{poseFits}
-use Rattle.mechanism.specs.declared.Bodies.{Bodies}
-use Rattle.mechanism.specs.declared.Checked.{Checked}
-use Rattle.mechanism.specs.declared.Checked.the-variants.{Accepted, Refused}
+use Rattle.bodies.specs.Pose.{poseFits}
+use Rattle.bodies.specs.declared.Bodies.{Bodies}
+use Rattle.bodies.specs.declared.Checked.{Checked}
+use Rattle.bodies.specs.declared.Checked.the-variants.{Accepted, Refused}
 use Rattle.mechanism.specs.declared.Mechanism.{Mechanism}
 use Rattle.mechanism.specs.declared.Outlines.{Outlines}
 use Rattle.mechanism.specs.declared.Parts.{Parts}
 use Rattle.mechanism.specs.declared.features.Piece.{Piece}
 use Rattle.mechanism.specs.declared.features.Piece.the-variants as Piece
 use Rattle.mechanism.specs.declared.pair.ContactPair.{ContactPair}
-use Rattle.mechanism.specs.declared.pose.Pose.{Pose}
+use Rattle.bodies.specs.declared.pose.Pose.{Pose}
 use Rattle.mechanism.specs.declared.rows.Row.{Row}
 use Rattle.sides.specs.Contacts.{pairFeatures, mechanismBound}
 use Rattle.sides.specs.declared.contacts.PairFeatures.{PairFeatures}

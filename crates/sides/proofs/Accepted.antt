@@ -9,7 +9,7 @@ use Rattle.laws.proofs.Choice.{neither, both, not-yes}
 use Rattle.laws.proofs.Sums.{sum-part}
 use Rattle.mechanism.specs.Check.{partsOver, sideOver, partDraws, rangeDrawn, checkOf, sideDrawn, pairDrawn, FewParts}
 use Rattle.mechanism.specs.Description.{partAt, pairAt, rangeAt, rangeLength, sideLength}
-use Rattle.mechanism.specs.declared.Checked.the-variants.{Accepted}
+use Rattle.bodies.specs.declared.Checked.the-variants.{Accepted}
 use Rattle.mechanism.specs.declared.Mechanism.{Mechanism}
 use Rattle.mechanism.specs.declared.Parts.{Parts}
 use Rattle.mechanism.specs.declared.pair.ContactPair.{ContactPair}

@@ -14,7 +14,7 @@ use Rattle.geometry.specs.declared.Seg.{Seg}
 use Rattle.geometry.specs.declared.Seg.the-variants.{Line, Arc}
 use Rattle.mechanism.specs.Check.{checkOf}
 use Rattle.mechanism.specs.Description.{sumIn, pairAt}
-use Rattle.mechanism.specs.declared.Checked.the-variants.{Accepted}
+use Rattle.bodies.specs.declared.Checked.the-variants.{Accepted}
 use Rattle.mechanism.specs.declared.Mechanism.{Mechanism}
 use Rattle.mechanism.specs.declared.Outlines.{Outlines}
 use Rattle.mechanism.specs.declared.Parts.{Parts}

@@ -9,7 +9,7 @@ use Rattle.laws.specs.Loops.{Writing}
 use Rattle.laws.proofs.Fill.{map-drop}
 use Rattle.laws.proofs.Writing.{starts, ends}
 use Rattle.mechanism.specs.Description.{pairAt, noPair}
-use Rattle.mechanism.specs.declared.Checked.the-variants.{Accepted}
+use Rattle.bodies.specs.declared.Checked.the-variants.{Accepted}
 use Rattle.mechanism.specs.declared.Outlines.{Outlines}
 use Rattle.mechanism.specs.declared.Pairs.{Pairs}
 use Rattle.mechanism.specs.declared.Parts.{Parts}

@@ -6,8 +6,8 @@ use lib.ListN.{take}
 use Rattle.laws.specs.Fill.{filled}
 use Rattle.mechanism.specs.Check.{checkOf, pairDrawn}
 use Rattle.mechanism.specs.Description.{sumIn, pairAt}
-use Rattle.mechanism.specs.declared.Checked.{Checked}
-use Rattle.mechanism.specs.declared.Checked.the-variants.{Accepted, Refused}
+use Rattle.bodies.specs.declared.Checked.{Checked}
+use Rattle.bodies.specs.declared.Checked.the-variants.{Accepted, Refused}
 use Rattle.mechanism.specs.declared.Mechanism.{Mechanism}
 use Rattle.mechanism.specs.declared.Outlines.{Outlines}
 use Rattle.mechanism.specs.declared.Pairs.{Pairs}

@@ -29,7 +29,7 @@ use Rattle.mechanism.specs.declared.pair.Surface.{Surface}
 use Rattle.mechanism.specs.declared.part.Role.{Role}
 use Rattle.mechanism.specs.declared.part.Role.the-variants.{Solid, Cut, Lining}
 use Rattle.mechanism.specs.declared.part.SurfaceRef.{SurfaceRef}
-use Rattle.mechanism.specs.declared.pose.MaterialPoint.{MaterialPoint}
+use Rattle.bodies.specs.declared.pose.MaterialPoint.{MaterialPoint}
 use Rattle.silhouette.specs.Silhouette.{noLine, axisOf, silhouetteAt}
 use Rattle.silhouette.specs.declared.MaybeAxis.{MaybeAxis}
 use Rattle.silhouette.specs.declared.MaybeAxis.the-variants.{SomeAxis, NoAxis}

@@ -15,6 +15,7 @@ ghost use Rattle.sides.specs.Bounds.{Runs, DrawnRange, DrawnSide};
 
 pub mod contacts;
 
+use bodies::pose::MaterialPoint;
 use geometry::Dir;
 use geometry::MaybeDir;
 use geometry::Point;
@@ -33,7 +34,6 @@ use mechanism::part::Part;
 use mechanism::part::Role;
 use mechanism::part::SurfaceRef;
 use mechanism::part::Sweep;
-use mechanism::pose::MaterialPoint;
 use silhouette::MaybeAxis;
 use silhouette::SilhouetteSegs;
 use silhouette::axis;

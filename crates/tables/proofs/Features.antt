@@ -18,7 +18,7 @@ use Rattle.geometry.specs.declared.Point.{Point}
 use Rattle.mechanism.specs.Check.{checkOf}
 use Rattle.mechanism.specs.Description.{pairAt}
 use Rattle.mechanism.specs.Piece.{partOf}
-use Rattle.mechanism.specs.declared.Checked.the-variants.{Accepted}
+use Rattle.bodies.specs.declared.Checked.the-variants.{Accepted}
 use Rattle.mechanism.specs.declared.Mechanism.{Mechanism}
 use Rattle.mechanism.specs.declared.Outlines.{Outlines}
 use Rattle.mechanism.specs.declared.Parts.{Parts}

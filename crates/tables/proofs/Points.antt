@@ -18,12 +18,13 @@ use Rattle.laws.proofs.Sums.{sum-same, sum-scaled}
 use Rattle.laws.proofs.Writing.{sets-taken}
 use Rattle.geometry.specs.declared.Point.{Point}
 use Rattle.mechanism.specs.Check.{FewParts}
-use Rattle.mechanism.specs.Description.{noPoint, sumIn, segsOf}
-use Rattle.mechanism.specs.Pose.{placementAt, worldOf}
+use Rattle.bodies.specs.Description.{noPoint}
+use Rattle.mechanism.specs.Description.{sumIn, segsOf}
+use Rattle.bodies.specs.Pose.{placementAt, worldOf}
 use Rattle.mechanism.specs.declared.Outlines.{Outlines}
 use Rattle.mechanism.specs.declared.Parts.{Parts}
 use Rattle.mechanism.specs.declared.pair.Surface.{Surface}
-use Rattle.mechanism.specs.declared.pose.Pose.{Pose}
+use Rattle.bodies.specs.declared.pose.Pose.{Pose}
 use Rattle.silhouette.specs.Silhouette.{silhouetteAt}
 use Rattle.strips.specs.Strips.{atMost, partFrom, partAt, pointFrom, pointAt}
 use Rattle.strips.specs.declared.PartFacts.{PartFacts}

@@ -9,8 +9,8 @@ use lib.Ieee.{Float}
 use Rattle.laws.specs.Lists.{listIn, flat}
 use Rattle.geometry.specs.declared.Point.{Point}
 use Rattle.mechanism.specs.Description.{partAt, pairAt}
-use Rattle.mechanism.specs.declared.Checked.{Checked}
-use Rattle.mechanism.specs.declared.Checked.the-variants.{Accepted, Refused}
+use Rattle.bodies.specs.declared.Checked.{Checked}
+use Rattle.bodies.specs.declared.Checked.the-variants.{Accepted, Refused}
 use Rattle.mechanism.specs.declared.Mechanism.{Mechanism}
 use Rattle.mechanism.specs.declared.Outlines.{Outlines}
 use Rattle.mechanism.specs.declared.Parts.{Parts}

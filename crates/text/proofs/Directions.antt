@@ -13,7 +13,7 @@ use Rattle.geometry.specs.declared.MaybeDir.the-variants.{SomeDir, NoDir}
 use Rattle.geometry.specs.declared.Seg.the-variants.{Arc}
 use Rattle.geometry.proofs.DirAgain.{dir-again}
 use Rattle.mechanism.specs.Check.{hasNone, noDir, jointLacks, segLacks}
-use Rattle.mechanism.specs.declared.Joint.the-variants.{Prismatic}
+use Rattle.bodies.specs.declared.Joint.the-variants.{Prismatic}
 use Rattle.text.specs.Fields.{realAt}
 use Rattle.text.specs.Records.{dirAt}
 

@@ -9,8 +9,8 @@ use Rattle.geometry.specs.Geometry.{dirOf, dirOr}
 use Rattle.geometry.specs.declared.Point.{Point}
 use Rattle.geometry.specs.declared.Dir.{Dir}
 use Rattle.geometry.specs.declared.Seg.the-variants.{Line, Arc}
-use Rattle.mechanism.specs.declared.Joint.{Joint}
-use Rattle.mechanism.specs.declared.Joint.the-variants.{Ground, Revolute, Prismatic}
+use Rattle.bodies.specs.declared.Joint.{Joint}
+use Rattle.bodies.specs.declared.Joint.the-variants.{Ground, Revolute, Prismatic}
 use Rattle.mechanism.specs.declared.part.Role.{Role}
 use Rattle.mechanism.specs.declared.part.Role.the-variants.{Solid, Cut, Lining}
 use Rattle.mechanism.specs.declared.part.Sweep.{Sweep}

@@ -1,7 +1,7 @@
 use native.Mathlib.Omega.{arith}
 use Prim.Native.Nat.{_≤_}
 use mathlib.Core.Path.{ap, _∙_}
-use Rattle.mechanism.specs.Pose.{worldOf}
+use Rattle.bodies.specs.Pose.{worldOf}
 use Rattle.proximities.proofs.Wrote.{wrote-same}
 use Rattle.candidates.proofs.Sides.{read-few, few-placed, features-read, center-read}
 use borrow.Author.Needs.{needs}

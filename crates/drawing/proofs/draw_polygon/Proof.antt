@@ -1,6 +1,6 @@
 use native.Mathlib.Omega.{arith}
 use Prim.Native.Nat.{_-_}
-use Rattle.mechanism.specs.Pose.{worldOf}
+use Rattle.bodies.specs.Pose.{worldOf}
 use Rattle.silhouette.proofs.Known.{silhouette-long}
 use Rattle.drawing.specs.Drawing.{drawnPoints}
 use Rattle.drawing.proofs.Segments.{Places, places-start, places-more, places-end, drawn-short}

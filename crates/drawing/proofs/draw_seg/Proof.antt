@@ -5,7 +5,7 @@ use mathlib.Core.Path.{refl}
 use mathlib.Core.List.{map}
 use lib.ListN.{take, drop}
 use Rattle.laws.specs.Loops.{Writing}
-use Rattle.mechanism.specs.Pose.{worldOf}
+use Rattle.bodies.specs.Pose.{worldOf}
 use Rattle.drawing.specs.Drawing.{rowOf}
 use Rattle.drawing.proofs.Segments.{drawn-held, rows-turn, first-row, next-row, drawn-end}
 use Rattle.drawing.proofs.draw_seg.Statement.{statement}

@@ -3,7 +3,7 @@ use borrow.Author.Needs.{needs}
 use Prim.Native.Nat.{_-_}
 use mathlib.Core.Path.{sym, ap, _∙_}
 use lib.ListN.{length}
-use Rattle.mechanism.specs.declared.Checked.the-variants.{Accepted}
+use Rattle.bodies.specs.declared.Checked.the-variants.{Accepted}
 use Rattle.governing.proofs.Entries.{Copied, row-room, copied-start, copied-long, copied-more, copied-ends, row-is, no-row}
 use Rattle.governing.proofs.row_entries.Statement.{statement}
 use Rattle.governing.proofs.row_entries.Tie as tie

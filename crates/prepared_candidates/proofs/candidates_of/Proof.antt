@@ -3,8 +3,8 @@ use borrow.Author.Needs.{needs}
 use Prim.Native.Nat.{ℕ}
 use mathlib.Core.Path.{ap, ap₂, _∙_}
 use Rattle.geometry.specs.declared.Point.{Point}
-use Rattle.mechanism.specs.Pose.{worldOf}
-use Rattle.mechanism.specs.declared.pose.Placement.{Placement}
+use Rattle.bodies.specs.Pose.{worldOf}
+use Rattle.bodies.specs.declared.pose.Placement.{Placement}
 use Rattle.strips.specs.Strips.{sideAt, pointAt, rowOfMaterial}
 use Rattle.drawing.specs.Prepared.{choiceAt}
 use Rattle.proximities.proofs.Wrote.{wrote-same}

@@ -2,8 +2,8 @@ use native.Mathlib.Omega.{arith}
 use mathlib.Core.Path.{_≡_, refl, sym, _∙_}
 use lib.ListN.{length}
 use borrow.Author.Tests.{lt-ltb, le-ltb, eq-eqb, ne-eqb}
-use Rattle.mechanism.specs.Check.{bodiesStand}
-use Rattle.mechanism.specs.declared.Checked.the-variants.{Accepted}
+use Rattle.bodies.specs.Check.{bodiesStand}
+use Rattle.bodies.specs.declared.Checked.the-variants.{Accepted}
 use Rattle.prepared_rows.specs.Prepared.{allRows, allGrads, allSlips, preparedChecked}
 use Rattle.prepared_rows.proofs.FromRows.{checked-is, stand-few, columns-few, room-tested, has-room-in, none-answered, rows-answered}
 use borrow.Author.Needs.{needs}

@@ -5,8 +5,8 @@ use lib.ListN.{length, replicate, length-replicate}
 use lib.Seq.{length-sets}
 use Rattle.ieee.specs.Consts.{zeroF}
 use Rattle.mechanism.specs.Check.{checkOf}
-use Rattle.mechanism.specs.declared.Checked.{Checked}
-use Rattle.mechanism.specs.declared.Checked.the-variants.{Accepted, Refused}
+use Rattle.bodies.specs.declared.Checked.{Checked}
+use Rattle.bodies.specs.declared.Checked.the-variants.{Accepted, Refused}
 use Rattle.tables.specs.Tables.{drawnTable, sampledTable, partTable, faceTable, faceNameTable, discTable, discNameTable, sideTable, centerTable, choiceTable, writtenIf}
 use borrow.Author.Needs.{needs}
 use Rattle.reading_times.proofs.answer.Statement.{statement}

@@ -45,9 +45,9 @@ use Rattle.mechanism.proofs.rows.Row as T
 use Rattle.mechanism.specs.declared.Mechanism.{Mechanism}
 use Rattle.mechanism.proofs.Mechanism as N
 use Rattle.mechanism.proofs.Mechanism.Laws as N′
-use Rattle.mechanism.specs.declared.pose.Pose.{Pose}
-use Rattle.mechanism.proofs.pose.Pose as P
-use Rattle.mechanism.proofs.pose.Pose.Laws as P′
+use Rattle.bodies.specs.declared.pose.Pose.{Pose}
+use Rattle.bodies.proofs.pose.Pose as P
+use Rattle.bodies.proofs.pose.Pose.Laws as P′
 use Rattle.bearings.specs.declared.BearingAnswer.{BearingAnswer}
 use Rattle.bearings.proofs.BearingAnswer as R
 use Rattle.bearings.proofs.BearingAnswer.Laws as R′

@@ -2,7 +2,7 @@ use native.Mathlib.Omega.{arith}
 use mathlib.Core.Path.{sym, ap, _∙_}
 use mathlib.Core.Bool.{true}
 use Rattle.mechanism.specs.Check.{callChecked}
-use Rattle.mechanism.specs.declared.Problem.the-variants.{TooFewRows}
+use Rattle.bodies.specs.declared.Problem.the-variants.{TooFewRows}
 use Rattle.mechanism.proofs.Checks.{call-accepted}
 use Rattle.shown_rows.proofs.Answer.{room-is, has-room, columns-small, answers-refused, answers-rows, all-refused, all-accepted, too-few}
 use borrow.Author.Needs.{needs}

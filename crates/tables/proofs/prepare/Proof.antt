@@ -4,9 +4,9 @@ use mathlib.Core.List.{List}
 use lib.Seq.{sets}
 use borrow.Author.Needs.{needs}
 use Rattle.mechanism.specs.Check.{checkOf}
-use Rattle.mechanism.specs.declared.Checked.{Checked}
-use Rattle.mechanism.specs.declared.Checked.the-variants.{Accepted, Refused}
-use Rattle.mechanism.specs.declared.Problem.{Problem}
+use Rattle.bodies.specs.declared.Checked.{Checked}
+use Rattle.bodies.specs.declared.Checked.the-variants.{Accepted, Refused}
+use Rattle.bodies.specs.declared.Problem.{Problem}
 use Rattle.mechanism.proofs.Checks.{accepted-few}
 use Rattle.tables.specs.Tables.{drawnTable, sampledTable, partTable, faceTable, faceNameTable, discTable, discNameTable, sideTable, centerTable, choiceTable, writtenIf}
 use Rattle.tables.proofs.prepare.Statement.{statement}

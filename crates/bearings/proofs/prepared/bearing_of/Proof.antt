@@ -1,6 +1,6 @@
 use borrow.Author.Needs.{needs}
 use mathlib.Core.Path.{ap₂, _∙_}
-use Rattle.mechanism.specs.declared.pose.Placement.{Placement}
+use Rattle.bodies.specs.declared.pose.Placement.{Placement}
 use Rattle.bearings.specs.Prepared.{cornerBearingIn, edgeBearingIn, bearingIn}
 use Rattle.bearings.proofs.Rows.{chosen-none, chosen-corner, chosen-edge}
 use Rattle.bearings.proofs.prepared.bearing_of.Statement.{statement}

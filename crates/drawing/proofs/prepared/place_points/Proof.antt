@@ -6,13 +6,13 @@ use mathlib.Core.List.{map}
 use Rattle.laws.specs.Lists.{listIn}
 use Rattle.laws.specs.Loops.{Writing}
 use Rattle.laws.proofs.Writing.{starts, puts, ends}
-use Rattle.mechanism.specs.Pose.{worldOf}
+use Rattle.bodies.specs.Pose.{worldOf}
 use Rattle.strips.specs.Strips.{pointAt}
 use Rattle.drawing.specs.Drawing.{rowOf}
 use Rattle.drawing.proofs.Lays.{row-turn, row-done, row-start}
 use Rattle.drawing.proofs.prepared.place_points.Statement.{statement}
 use Rattle.drawing.proofs.prepared.place_points.Tie as tie
-use Rattle.mechanism.proofs.pose.Placement.world.Reads as world-reads
+use Rattle.bodies.proofs.pose.Placement.world.Reads as world-reads
 use Rattle.strips.proofs.point_at.Reads as point-at-reads
 
 abbrev Inv-loop : tie.InvT-loop

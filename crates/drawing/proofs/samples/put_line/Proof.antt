@@ -6,7 +6,7 @@ use mathlib.Core.List.{map}
 use Rattle.laws.specs.Lists.{listIn}
 use Rattle.laws.specs.Loops.{Writing}
 use Rattle.laws.proofs.Writing.{starts, puts, ends}
-use Rattle.mechanism.specs.Pose.{worldOf}
+use Rattle.bodies.specs.Pose.{worldOf}
 use Rattle.drawing.specs.Drawing.{rowOf}
 use Rattle.drawing.specs.Samples.{onLine}
 use Rattle.drawing.proofs.Mouths.{line-turn, line-done}

@@ -1,6 +1,6 @@
 use native.Mathlib.Omega.{arith}
 use borrow.Author.Needs.{needs}
-use Rattle.mechanism.specs.Pose.{worldOf}
+use Rattle.bodies.specs.Pose.{worldOf}
 use Rattle.drawing.proofs.Mouths.{of-line, of-arc}
 use Rattle.drawing.proofs.samples.put_points.Statement.{statement}
 use Rattle.drawing.proofs.samples.put_points.Tie as tie

@@ -2,7 +2,7 @@ use native.Mathlib.Omega.{arith}
 use Prim.Native.Nat.{_-_}
 use native.Mathlib.Nat.{zero-add}
 use mathlib.Core.Path.{_∙_}
-use Rattle.mechanism.specs.Pose.{worldOf}
+use Rattle.bodies.specs.Pose.{worldOf}
 use Rattle.silhouette.proofs.Known.{silhouette-long}
 use Rattle.drawing.specs.Samples.{mouthsIn, samplesOf}
 use Rattle.drawing.proofs.Segments.{Places, places-start, places-more, places-end}

@@ -7,7 +7,7 @@ use mathlib.Core.List.{List, map}
 use lib.ListN.{length}
 use lib.Seq.{sets}
 use Rattle.geometry.specs.declared.Point.{Point}
-use Rattle.mechanism.specs.Pose.{worldOf}
+use Rattle.bodies.specs.Pose.{worldOf}
 use Rattle.drawing.specs.Drawing.{rowOf}
 use Rattle.drawing.specs.Samples.{mouthsIn}
 use Rattle.drawing.proofs.Mouths.{seg-none, seg-some}

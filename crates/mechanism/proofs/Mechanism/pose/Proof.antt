@@ -1,9 +1,7 @@
-use mathlib.Core.Path.{sym, _∙_, subst}
-use Prim.Native.Nat.{ℕ}
-use borrow.Author.Tests.{eq-eqb, ne-eqb}
-use Rattle.mechanism.specs.Pose.{Rooted}
-use Rattle.mechanism.proofs.Checks.{accepted-rooted}
-use Rattle.mechanism.proofs.Walk.{posed-is}
+use mathlib.Core.Path.{sym, ap, _∙_}
+use Rattle.bodies.specs.Pose.{posedOf}
+use Rattle.bodies.specs.declared.Checked.{Checked}
+use Rattle.mechanism.proofs.Checks.{posed-bodies}
 use borrow.Author.Needs.{needs}
 use Rattle.mechanism.proofs.Mechanism.pose.Statement.{statement}
 use Rattle.mechanism.proofs.Mechanism.pose.Tie as tie
@@ -20,31 +18,16 @@ no-pose-requires c κs = search needs
 enum-told : tie.Need-enum-told
 enum-told c = search needs
 
-placements-requires : tie.Need-placements-requires
-placements-requires c κs = subst (λ (n : ℕ). Rooted (c .before .before .before .before .before .before .args .self .bodies) n) (sym (c .if1 .taken)) (accepted-rooted _ (sym (c .before .before .before .before .before .check .ensures) ∙ c .before .before .before .enum-told .given .1))
-
-no-pose-requires-2 : tie.Need-no-pose-requires-2
-no-pose-requires-2 c κs = search needs
+pose-requires : tie.Need-pose-requires
+pose-requires c κs = search needs
 
 returns : tie.Need-returns
 returns c = simp (c .no-pose .ensures, sym (c .before .before .before .before .check .ensures) ∙ c .before .before .c .given .1)
 
 returns-2 : tie.Need-returns-2
-returns-2 c = simp (sym (c .before .before .before .before .before .before .check .ensures) ∙ c .before .before .before .before .enum-told .given .1, eq-eqb _ _ (c .before .if1 .taken)) (posed-is _ _ _ (c .placements .ensures .0) (c .placements .ensures .1))
-
-returns-3 : tie.Need-returns-3
-returns-3 c = simp (sym (c .before .before .before .before .before .before .check .ensures) ∙ c .before .before .before .before .enum-told .given .1, ne-eqb _ _ (c .before .if1 .left), c .no-pose2 .ensures)
+returns-2 c =
+    let s = c .before .before .before .before .before in
+    c .pose .ensures ∙ ap (λ (x : Checked). posedOf x (s .args .self .bodies) (s .args .q .now)) (posed-bodies (s .args .self) (s .args .q .now) (sym (c .before .before .before .before .check .ensures) ∙ c .before .before .enum-told .given .1))
 
 pub pose-spec : {M : Type 1} → statement M
-pose-spec =
-    tie.close
-    (tie.spec
-    check-requires
-    enum-known-c
-    no-pose-requires
-    enum-told
-    placements-requires
-    no-pose-requires-2
-    returns
-    returns-2
-    returns-3)
+pose-spec = tie.close (tie.spec check-requires enum-known-c no-pose-requires enum-told pose-requires returns returns-2)

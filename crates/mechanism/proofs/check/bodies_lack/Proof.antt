@@ -5,7 +5,7 @@ use native.Mathlib.Nat.{sub-zero}
 use mathlib.Core.Path.{_≡_, sym, _∙_}
 use Rattle.laws.specs.Loops.{anyIn}
 use Rattle.laws.proofs.Loops.{any-yes, any-no, any-done}
-use Rattle.mechanism.specs.Description.{bodyAt}
+use Rattle.bodies.specs.Description.{bodyAt}
 use Rattle.mechanism.specs.Check.{jointLacks, bodiesLack}
 use Rattle.mechanism.proofs.check.bodies_lack.Statement.{statement}
 use Rattle.mechanism.proofs.check.bodies_lack.Tie as tie

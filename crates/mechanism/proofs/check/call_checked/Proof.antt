@@ -1,6 +1,7 @@
 use mathlib.Core.Path.{sym, _∙_}
 use Rattle.laws.proofs.Choice.{cond-yes, cond-no}
-use Rattle.mechanism.proofs.Checks.{at-description, at-pose, at-names, past-names, is-no, is-yes}
+use Rattle.bodies.proofs.Checks.{is-no, is-yes}
+use Rattle.mechanism.proofs.Checks.{at-description, at-pose, at-names, past-names}
 use borrow.Author.Needs.{needs}
 use Rattle.mechanism.proofs.check.call_checked.Statement.{statement}
 use Rattle.mechanism.proofs.check.call_checked.Tie as tie

@@ -7,11 +7,12 @@ use Rattle.laws.specs.Loops.{firstIn}
 use Rattle.laws.proofs.Choice.{not-yes, not-no}
 use Rattle.laws.proofs.Loops.{first-hit, first-miss, first-done}
 use Rattle.mechanism.specs.Description.{pairAt}
-use Rattle.mechanism.specs.Check.{isAccepted, sideBody, sidesChecked, pairsChecked}
+use Rattle.bodies.specs.Check.{isAccepted}
+use Rattle.mechanism.specs.Check.{sideBody, sidesChecked, pairsChecked}
 use Rattle.mechanism.specs.declared.Parts.{Parts}
 use Rattle.mechanism.specs.declared.Pairs.{Pairs}
-use Rattle.mechanism.specs.declared.Checked.{Checked}
-use Rattle.mechanism.specs.declared.Checked.the-variants.{Accepted}
+use Rattle.bodies.specs.declared.Checked.{Checked}
+use Rattle.bodies.specs.declared.Checked.the-variants.{Accepted}
 use Rattle.mechanism.proofs.check.pairs_checked.Statement.{statement}
 use Rattle.mechanism.proofs.check.pairs_checked.Tie as tie
 

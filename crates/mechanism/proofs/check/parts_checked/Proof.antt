@@ -8,11 +8,12 @@ use Rattle.laws.proofs.Choice.{not-yes, not-no}
 use Rattle.laws.proofs.Loops.{first-hit, first-miss, first-done}
 use Rattle.laws.proofs.Sums.{sum-more}
 use Rattle.mechanism.specs.Description.{partAt, segsOf, startOfPart}
-use Rattle.mechanism.specs.Check.{isAccepted, partChecked, partsChecked}
+use Rattle.bodies.specs.Check.{isAccepted}
+use Rattle.mechanism.specs.Check.{partChecked, partsChecked}
 use Rattle.mechanism.specs.declared.Parts.{Parts}
 use Rattle.mechanism.specs.declared.Outlines.{Outlines}
-use Rattle.mechanism.specs.declared.Checked.{Checked}
-use Rattle.mechanism.specs.declared.Checked.the-variants.{Accepted}
+use Rattle.bodies.specs.declared.Checked.{Checked}
+use Rattle.bodies.specs.declared.Checked.the-variants.{Accepted}
 use Rattle.mechanism.proofs.check.parts_checked.Statement.{statement}
 use Rattle.mechanism.proofs.check.parts_checked.Tie as tie
 

@@ -1,4 +1,4 @@
-use Rattle.mechanism.proofs.Walk.{numbered}
+use Rattle.bodies.proofs.Walk.{numbered}
 use borrow.Author.Needs.{needs}
 use Rattle.mechanism.proofs.pose.body_numbered.Statement.{statement}
 use Rattle.mechanism.proofs.pose.body_numbered.Tie as tie

@@ -5,7 +5,7 @@ use mathlib.Core.Path.{_≡_, sym, ap, _∙_}
 use mathlib.Core.List.{map}
 use Rattle.laws.specs.Lists.{listIn}
 use Rattle.ieee.specs.Num.{maxOf}
-use Rattle.mechanism.specs.Pose.{worldOf}
+use Rattle.bodies.specs.Pose.{worldOf}
 use Rattle.material.specs.Material.{materialOf, squareDepth, deepestSquare}
 use Rattle.material.proofs.Outside.{within-square}
 use Rattle.strips.specs.Strips.{pointAt}

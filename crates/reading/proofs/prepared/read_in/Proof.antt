@@ -1,7 +1,7 @@
 use mathlib.Core.Path.{ap}
 use lib.ListN.{length}
 use borrow.Author.Tests.{lt-ltb, le-ltb}
-use Rattle.mechanism.specs.declared.pose.Posed.{Posed}
+use Rattle.bodies.specs.declared.pose.Posed.{Posed}
 use Rattle.reading.specs.Prepared.{poseOf, readChecked}
 use Rattle.reading.proofs.Over.{read-many, read-unposed, read-on, posed-told, read-none, read-through}
 use borrow.Author.Needs.{needs}

@@ -3,7 +3,7 @@ use borrow.Author.Needs.{needs}
 use Prim.Native.Nat.{_-_, _≤_}
 use mathlib.Core.Path.{ap, _∙_}
 use mathlib.Core.List.{List}
-use Rattle.mechanism.specs.declared.Checked.the-variants.{Accepted}
+use Rattle.bodies.specs.declared.Checked.the-variants.{Accepted}
 use Rattle.reading.specs.Prepared.{pairReadingIn}
 use Rattle.reading.specs.declared.PairReading.{PairReading}
 use Rattle.reading.proofs.Over.{PairsOf, of-start, of-turn, of-end, by-records}

@@ -1,0 +1,3 @@
+pub mod Description
+pub mod Check
+pub mod Pose
