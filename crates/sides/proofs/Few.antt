@@ -24,16 +24,17 @@ use Rattle.mechanism.specs.declared.pair.ContactPair.{ContactPair}
 use Rattle.mechanism.specs.declared.pair.PairGeometry.{PairGeometry}
 use Rattle.mechanism.specs.declared.pair.PairGeometry.the-variants.{Features, CenterBearing}
 use Rattle.mechanism.specs.declared.pair.Surface.{Surface}
-use Rattle.sides.specs.declared.MaybeSeg.{MaybeSeg}
-use Rattle.sides.specs.declared.MaybeSeg.the-variants.{NoSeg, SomeSeg}
-use Rattle.sides.specs.declared.MaybeFace.{MaybeFace}
-use Rattle.sides.specs.declared.MaybeFace.the-variants.{NoFace, SomeFace}
-use Rattle.sides.specs.declared.MaybeDisc.{MaybeDisc}
-use Rattle.sides.specs.declared.MaybeDisc.the-variants.{NoDisc, SomeDisc}
+use Rattle.corners.specs.declared.MaybeSeg.{MaybeSeg}
+use Rattle.corners.specs.declared.MaybeSeg.the-variants.{NoSeg, SomeSeg}
+use Rattle.corners.specs.declared.MaybeFace.{MaybeFace}
+use Rattle.corners.specs.declared.MaybeFace.the-variants.{NoFace, SomeFace}
+use Rattle.corners.specs.declared.MaybeDisc.{MaybeDisc}
+use Rattle.corners.specs.declared.MaybeDisc.the-variants.{NoDisc, SomeDisc}
 use Rattle.sides.specs.declared.PlacedFace.{PlacedFace}
 use Rattle.sides.specs.declared.SideFeatures.{SideFeatures}
 use Rattle.sides.specs.declared.contacts.PairFeatures.{PairFeatures}
-use Rattle.sides.specs.Features.{Run, placedFace, placedDisc, faceOf, arcOf, cornerOf, facesOfSeg, discsOfSeg, facesAt, stepAt, stepDiscs, endDiscs, rangeFaces, rangeDiscs, opening, previousAt, runAt, facesOfRange, discsOfRange, facesOf, discsOf, lastBefore, firstAfter, lastSeg, between, meets, traversalsOf, sideOf}
+use Rattle.corners.specs.Corners.{faceOf, arcOf, cornerOf}
+use Rattle.sides.specs.Features.{Run, placedFace, placedDisc, facesOfSeg, discsOfSeg, facesAt, stepAt, stepDiscs, endDiscs, rangeFaces, rangeDiscs, opening, previousAt, runAt, facesOfRange, discsOfRange, facesOf, discsOf, lastBefore, firstAfter, lastSeg, between, meets, traversalsOf, sideOf}
 use Rattle.sides.specs.Bounds.{total, Runs, DrawnSide, rowBound}
 use Rattle.sides.specs.Contacts.{centerOfB, pairFeatures, pairBound, mechanismBound}
 use Rattle.sides.proofs.Sizes.{drawn-runs}

@@ -21,13 +21,14 @@ use Rattle.silhouette.specs.declared.SilhouetteSegs.{SilhouetteSegs}
 use Rattle.silhouette.proofs.Walks.{held-at, held-long}
 use Rattle.sides.proofs.Worked as worked
 use Rattle.sides.specs.declared.MaybePoint.the-variants.{NoPoint, SomePoint}
-use Rattle.sides.specs.declared.MaybeSeg.{MaybeSeg}
-use Rattle.sides.specs.declared.MaybeSeg.the-variants.{NoSeg, SomeSeg}
+use Rattle.corners.specs.declared.MaybeSeg.{MaybeSeg}
+use Rattle.corners.specs.declared.MaybeSeg.the-variants.{NoSeg, SomeSeg}
 use Rattle.sides.specs.declared.Step.{Step}
 use Rattle.sides.specs.declared.Steps.{Steps}
 use Rattle.sides.specs.declared.Traversal.{Traversal}
 use Rattle.sides.specs.declared.Traversals.{Traversals}
-use Rattle.sides.specs.Features.{Run, forwardStep, backwardStep, runBack, segIn, runOf, runsIn, runAt, stepAt, noStep, stepsIn, forwardOf, backwardOf, crossingOf}
+use Rattle.corners.specs.Corners.{runBack}
+use Rattle.sides.specs.Features.{Run, forwardStep, backwardStep, segIn, runOf, runsIn, runAt, stepAt, noStep, stepsIn, forwardOf, backwardOf, crossingOf}
 
 module _ (sil : SilhouetteSegs) (i : ℕ) (l : sil .count ≤ length (sil .seg)) (h : i < sil .count) where
   pub seg-held : segIn (segsIn sil) i ≡ segOf (getD (sil .seg) i noSeg)

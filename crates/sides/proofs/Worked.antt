@@ -21,7 +21,8 @@ use Rattle.silhouette.specs.Silhouette.{silhouetteOf, chainOf, aboutAxis}
 use Rattle.silhouette.specs.declared.MaybeAxis.the-variants.{SomeAxis, NoAxis}
 use Rattle.sides.specs.declared.PlacedFace.{PlacedFace}
 use Rattle.sides.specs.declared.PlacedDisc.{PlacedDisc}
-use Rattle.sides.specs.Features.{Run, traverseOf, forwardOf, backwardOf, facesOf, discsOf, rangeFaces, rangeDiscs, stepDiscs, endDiscs, faceOf, vertexOf, endsNormals, normalOf, convexOf, crossingOf, centerOf}
+use Rattle.corners.specs.Corners.{faceOf, vertexOf, endsNormals, normalOf, convexOf}
+use Rattle.sides.specs.Features.{Run, traverseOf, forwardOf, backwardOf, facesOf, discsOf, rangeFaces, rangeDiscs, stepDiscs, endDiscs, crossingOf, centerOf}
 
 abbrev threeF : Float
 threeF = ofBits binary64 0x4008_0000_0000_0000

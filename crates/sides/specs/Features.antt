@@ -1,24 +1,23 @@
 -- The features of a side (contact/features.rs). Definitions only; the names are the Rust's, with `Of` or `At` behind them.
 use Prim.Native.Nat.{ℕ, _+_, _-_, _%_}
 use mathlib.Core.Path.{_≡_}
-use mathlib.Core.Bool.{Bool, true, false, _&&_, _||_, cond}
+use mathlib.Core.Bool.{Bool, true, false, _||_, cond}
 use mathlib.Core.List.{List, [], _∷_, _++_, map, reverse}
 use lib.Dec.{eqb, ltb}
 use lib.ListN.{length, take, getD}
 use lib.Seq.{sets}
-use lib.Ieee.{Float, lt, eq, neg}
+use lib.Ieee.{Float}
 use Rattle.laws.specs.Loops.{joinIn}
 use Rattle.laws.specs.Fill.{range, filled}
-use Rattle.ieee.specs.Operators.{_⊕_, _⊖_, _⊗_}
+use Rattle.ieee.specs.Operators.{_⊕_, _⊗_}
 use Rattle.ieee.specs.Consts.{zeroF, halfF}
 use Rattle.ieee.specs.Num.{sameOf}
-use Rattle.geometry.specs.Geometry.{dirOf, startOf, endOf}
+use Rattle.geometry.specs.Geometry.{startOf, endOf}
 use Rattle.geometry.specs.declared.Point.{Point}
 use Rattle.geometry.specs.declared.Dir.{Dir}
-use Rattle.geometry.specs.declared.MaybeDir.{MaybeDir}
-use Rattle.geometry.specs.declared.MaybeDir.the-variants.{NoDir, SomeDir}
 use Rattle.geometry.specs.declared.Seg.{Seg}
-use Rattle.geometry.specs.declared.Seg.the-variants.{Line, Arc}
+use Rattle.geometry.specs.declared.Seg.the-variants.{Arc}
+use Rattle.corners.specs.Corners.{faceOf, runBack, arcOf, cornerOf}
 use Rattle.mechanism.specs.Check.{samePoint, sideDrawn}
 use Rattle.mechanism.specs.Description.{partAt, rangeAt}
 use Rattle.mechanism.specs.declared.Parts.{Parts}
@@ -33,14 +32,12 @@ use Rattle.bodies.specs.declared.pose.MaterialPoint.{MaterialPoint}
 use Rattle.silhouette.specs.Silhouette.{noLine, axisOf, silhouetteAt}
 use Rattle.silhouette.specs.declared.MaybeAxis.{MaybeAxis}
 use Rattle.silhouette.specs.declared.MaybeAxis.the-variants.{SomeAxis, NoAxis}
-use Rattle.sides.specs.declared.MaybeSeg.{MaybeSeg}
-use Rattle.sides.specs.declared.MaybeSeg.the-variants.{NoSeg, SomeSeg}
-use Rattle.sides.specs.declared.MaybeEnds.{MaybeEnds}
-use Rattle.sides.specs.declared.MaybeEnds.the-variants.{NoEnds, SomeEnds}
-use Rattle.sides.specs.declared.MaybeFace.{MaybeFace}
-use Rattle.sides.specs.declared.MaybeFace.the-variants.{NoFace, SomeFace}
-use Rattle.sides.specs.declared.MaybeDisc.{MaybeDisc}
-use Rattle.sides.specs.declared.MaybeDisc.the-variants.{NoDisc, SomeDisc}
+use Rattle.corners.specs.declared.MaybeSeg.{MaybeSeg}
+use Rattle.corners.specs.declared.MaybeSeg.the-variants.{NoSeg, SomeSeg}
+use Rattle.corners.specs.declared.MaybeFace.{MaybeFace}
+use Rattle.corners.specs.declared.MaybeFace.the-variants.{NoFace, SomeFace}
+use Rattle.corners.specs.declared.MaybeDisc.{MaybeDisc}
+use Rattle.corners.specs.declared.MaybeDisc.the-variants.{NoDisc, SomeDisc}
 use Rattle.sides.specs.declared.MaybePoint.{MaybePoint}
 use Rattle.sides.specs.declared.MaybePoint.the-variants.{NoPoint, SomePoint}
 use Rattle.sides.specs.declared.PlacedFace.{PlacedFace}
@@ -52,54 +49,7 @@ use Rattle.sides.specs.declared.Traversals.{Traversals}
 use Rattle.sides.specs.declared.Features.{Features}
 use Rattle.sides.specs.declared.SideFeatures.{SideFeatures}
 
--- ---- normals, faces, vertices
--- the right-hand normal of a direction, normalized anew
-abbrev pub rightOf : MaybeDir → MaybeDir
-rightOf NoDir = NoDir
-rightOf (SomeDir d) = dirOf (d .y) (neg (d .x))
-
--- the right-hand normal of the line from a to b
-unfoldable pub normalOf : Point → Point → MaybeDir
-normalOf a b = rightOf (dirOf (b .x ⊖ a .x) (b .y ⊖ a .y))
-
-abbrev pub twice : MaybeDir → MaybeEnds
-twice NoDir = NoEnds
-twice (SomeDir n) = SomeEnds n n
-
--- the outward normals at a segment's start and end
-unfoldable pub endsNormals : Seg → MaybeEnds
-endsNormals (Line a b) = twice (normalOf a b)
-endsNormals (Arc c r from to) = SomeEnds from to
-
-abbrev pub facing : Point → Point → MaybeDir → MaybeFace
-facing a b NoDir = NoFace
-facing a b (SomeDir n) = SomeFace (record { a = a; b = b; normal = n })
-
-unfoldable pub faceOf : Seg → MaybeFace
-faceOf (Line a b) = facing a b (normalOf a b)
-faceOf (Arc c r from to) = NoFace
-
--- the outline turns left, or straight back
-unfoldable pub convexOf : Dir → Dir → Bool
-convexOf from to =
-    let turn = from .x ⊗ to .y ⊖ from .y ⊗ to .x in
-    let back = from .x ⊗ to .x ⊕ from .y ⊗ to .y in
-    lt zeroF turn || (eq turn zeroF && lt back zeroF)
-
-abbrev pub vertexAt : Point → MaybeEnds → MaybeEnds → MaybeDisc
-vertexAt p NoEnds e = NoDisc
-vertexAt p (SomeEnds f from) NoEnds = NoDisc
-vertexAt p (SomeEnds f from) (SomeEnds to t) = cond (convexOf from to) (SomeDisc (record { center = p; radius = zeroF; from = from; to = to })) NoDisc
-
-unfoldable pub vertexOf : Seg → Seg → MaybeDisc
-vertexOf previous next = vertexAt (startOf next) (endsNormals previous) (endsNormals next)
-
 -- ---- one range, as the material that it bounds runs
--- a line run the other way; an arc has no such reading
-abbrev pub runBack : Seg → MaybeSeg
-runBack (Line a b) = SomeSeg (Line b a)
-runBack (Arc c r from to) = NoSeg
-
 -- What `side` reads of a range: the Rust's Traversal (a step is an entry of `segs` with that of `starts`), and beside it the part, whether it is a
 -- cut, whether the range is the whole silhouette, and the segment that names the vertex at its end.
 pub record Run : Type 0 where
@@ -163,17 +113,6 @@ placedFace p (SomeFace f) = record { piece = p; face = f } ∷ []
 abbrev pub placedDisc : Piece → MaybeDisc → List PlacedDisc
 placedDisc p NoDisc = []
 placedDisc p (SomeDisc d) = record { piece = p; disc = d } ∷ []
-
--- the disc of an arc of material
-abbrev pub arcOf : Bool → Seg → MaybeDisc
-arcOf true g = NoDisc
-arcOf false (Line a b) = NoDisc
-arcOf false (Arc c r from to) = SomeDisc (record { center = c; radius = r; from = from; to = to })
-
--- the vertex between the segment before, where there is one, and g
-abbrev pub cornerOf : MaybeSeg → Seg → MaybeDisc
-cornerOf NoSeg g = NoDisc
-cornerOf (SomeSeg p) g = vertexOf p g
 
 abbrev pub facesOfSeg : ℕ → ℕ → MaybeSeg → List PlacedFace
 facesOfSeg part named NoSeg = []

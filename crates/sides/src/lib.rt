@@ -10,14 +10,22 @@ ghost use Rattle.geometry.specs.Geometry.{startOf};
 ghost use Rattle.mechanism.specs.Check.{FewParts};
 ghost use Rattle.mechanism.specs.declared.features.Piece.the-variants as Piece;
 ghost use Rattle.silhouette.specs.Silhouette.{segsIn};
-ghost use Rattle.sides.specs.Features.{rightOf, normalOf, endsNormals, faceOf, convexOf, vertexOf, runBack, forwardStep, backwardStep, forwardOf, backwardOf, traverseOf, segIn, placedFace, placedDisc, arcOf, cornerOf, facesAt, discsAt, firstSeg, lastSeg, meets, previousAt, rangeFaces, rangeDiscs, stepDiscs, endDiscs, lastBefore, firstAfter, facesOf, discsOf, crossingOf, middleOf, pointOr, onAxis, centerOf, centerAt, traversalOf, traversalsOf, runOf, stepsIn, runsIn, noFace, noDisc, Grown, sideOf, centerOfSide};
+ghost use Rattle.corners.specs.Corners.{faceOf, arcOf, cornerOf};
+ghost use Rattle.sides.specs.Features.{forwardStep, backwardStep, forwardOf, backwardOf, traverseOf, segIn, placedFace, placedDisc, facesAt, discsAt, firstSeg, lastSeg, meets, previousAt, rangeFaces, rangeDiscs, stepDiscs, endDiscs, lastBefore, firstAfter, facesOf, discsOf, crossingOf, middleOf, pointOr, onAxis, centerOf, centerAt, traversalOf, traversalsOf, runOf, stepsIn, runsIn, noFace, noDisc, Grown, sideOf, centerOfSide};
 ghost use Rattle.sides.specs.Bounds.{Runs, DrawnRange, DrawnSide};
 
 pub mod contacts;
 
 use bodies::pose::MaterialPoint;
+use corners::MaybeDisc;
+use corners::MaybeFace;
+use corners::MaybeSeg;
+use corners::arc;
+use corners::corner;
+use corners::face;
+use corners::run_back;
+use corners::vertex;
 use geometry::Dir;
-use geometry::MaybeDir;
 use geometry::Point;
 use geometry::Seg;
 use geometry::signed::Disc;
@@ -38,27 +46,6 @@ use silhouette::MaybeAxis;
 use silhouette::SilhouetteSegs;
 use silhouette::axis;
 use silhouette::silhouette_at;
-
-enum MaybeSeg {
-    NoSeg,
-    SomeSeg(Seg),
-}
-
-// The normals at a segment's start and at its end.
-enum MaybeEnds {
-    NoEnds,
-    SomeEnds(Dir, Dir),
-}
-
-enum MaybeFace {
-    NoFace,
-    SomeFace(Face),
-}
-
-enum MaybeDisc {
-    NoDisc,
-    SomeDisc(Disc),
-}
 
 enum MaybePoint {
     NoPoint,
@@ -127,100 +114,7 @@ pub struct SideFeatures {
     pub center: PlacedPoint,
 }
 
-// ---- normals, faces, vertices
-
-fn right_of(d: MaybeDir) -> MaybeDir
-    ensures { λ r. ⌜ r ≡ rightOf d ⌝ }
-{
-    match d {
-        MaybeDir::SomeDir(v) => Dir::new(v.y, -v.x),
-        MaybeDir::NoDir => MaybeDir::NoDir,
-    }
-}
-
-fn normal(a: Point, b: Point) -> MaybeDir
-    ensures { λ r. ⌜ r ≡ normalOf a b ⌝ }
-{
-    right_of(Dir::new(b.x - a.x, b.y - a.y))
-}
-
-fn ends_normals(seg: Seg) -> MaybeEnds
-    ensures { λ r. ⌜ r ≡ endsNormals seg ⌝ }
-{
-    match seg {
-        Seg::Line { a, b } => {
-            let n = normal(a, b);
-            match n {
-                MaybeDir::SomeDir(d) => MaybeEnds::SomeEnds(d, d),
-                MaybeDir::NoDir => MaybeEnds::NoEnds,
-            }
-        }
-        Seg::Arc { c, r, from, to } => MaybeEnds::SomeEnds(from, to),
-    }
-}
-
-fn face(seg: Seg) -> MaybeFace
-    ensures { λ r. ⌜ r ≡ faceOf seg ⌝ }
-{
-    match seg {
-        Seg::Line { a, b } => {
-            let n = normal(a, b);
-            match n {
-                MaybeDir::SomeDir(d) => MaybeFace::SomeFace(Face {
-                    a: a,
-                    b: b,
-                    normal: d,
-                }),
-                MaybeDir::NoDir => MaybeFace::NoFace,
-            }
-        }
-        Seg::Arc { c, r, from, to } => MaybeFace::NoFace,
-    }
-}
-
-fn convex(from: Dir, to: Dir) -> bool
-    ensures { λ r. ⌜ r ≡ convexOf from to ⌝ }
-{
-    let turn = from.x * to.y - from.y * to.x;
-    let back = from.x * to.x + from.y * to.y;
-    (turn > 0.0) | ((turn == 0.0) & (back < 0.0))
-}
-
-fn vertex(previous: Seg, next: Seg) -> MaybeDisc
-    ensures { λ r. ⌜ r ≡ vertexOf previous next ⌝ }
-{
-    let p = ends_normals(previous);
-    let n = ends_normals(next);
-    match p {
-        MaybeEnds::SomeEnds(f, from) => match n {
-            MaybeEnds::SomeEnds(to, t) => {
-                if convex(from, to) {
-                    MaybeDisc::SomeDisc(Disc {
-                        center: next.start(),
-                        radius: 0.0,
-                        from: from,
-                        to: to,
-                    })
-                } else {
-                    MaybeDisc::NoDisc
-                }
-            }
-            MaybeEnds::NoEnds => MaybeDisc::NoDisc,
-        },
-        MaybeEnds::NoEnds => MaybeDisc::NoDisc,
-    }
-}
-
 // ---- one range, as the material that it bounds runs
-
-fn run_back(seg: Seg) -> MaybeSeg
-    ensures { λ r. ⌜ r ≡ runBack seg ⌝ }
-{
-    match seg {
-        Seg::Line { a, b } => MaybeSeg::SomeSeg(Seg::Line { a: b, b: a }),
-        Seg::Arc { c, r, from, to } => MaybeSeg::NoSeg,
-    }
-}
 
 fn forward_steps(first: usize, past: usize, sil: SilhouetteSegs) -> Steps
     requires { ⌜ (first < past) × (past ≤ sil .count) × (sil .count ≤ 94) × (past - first ≤ 12) ⌝ }
@@ -349,32 +243,6 @@ fn traverse(range: SurfaceRef, sil: SilhouetteSegs, role: Role) -> Traversal
 }
 
 // ---- one segment's features
-
-fn arc(cut: bool, seg: Seg) -> MaybeDisc
-    ensures { λ r. ⌜ r ≡ arcOf cut seg ⌝ }
-{
-    if cut {
-        return MaybeDisc::NoDisc;
-    }
-    match seg {
-        Seg::Arc { c, r, from, to } => MaybeDisc::SomeDisc(Disc {
-            center: c,
-            radius: r,
-            from: from,
-            to: to,
-        }),
-        Seg::Line { a, b } => MaybeDisc::NoDisc,
-    }
-}
-
-fn corner(previous: MaybeSeg, seg: Seg) -> MaybeDisc
-    ensures { λ r. ⌜ r ≡ cornerOf previous seg ⌝ }
-{
-    match previous {
-        MaybeSeg::SomeSeg(p) => vertex(p, seg),
-        MaybeSeg::NoSeg => MaybeDisc::NoDisc,
-    }
-}
 
 fn add_face(f: Features, piece: Piece, m: MaybeFace) -> Features
     requires { ⌜ f .faces < 12 ⌝ }

@@ -4,6 +4,7 @@ use mathlib.Core.List.{_++_, append-nil}
 use borrow.Author.Needs.{needs}
 use Rattle.mechanism.specs.declared.features.Piece.the-variants as Piece
 use Rattle.sides.specs.Features as F
+use Rattle.corners.specs.Corners as K
 use Rattle.sides.proofs.Growth.{grown-as, grown-then}
 use Rattle.sides.proofs.Few.{disc-few}
 use Rattle.sides.proofs.read_seg.Statement.{statement}
@@ -37,7 +38,7 @@ returns c =
     let s = c .before .before .before .before .before .before .args in
     grown-as
     (append-nil _ ∙ append-nil _ ∙ ap (F.placedFace (Piece.Segment (s .part) (s .named))) (c .before .before .before .before .before .face .ensures))
-    (ap (λ m. F.placedDisc (Piece.Arc (s .part) (s .named)) m ++ F.placedDisc (Piece.Vertex (s .part) (s .starts)) (c .before .corner .result)) (c .before .before .before .arc .ensures) ∙ ap (λ m. F.placedDisc (Piece.Arc (s .part) (s .named)) (F.arcOf (s .cut) (s .seg)) ++ F.placedDisc (Piece.Vertex (s .part) (s .starts)) m) (c .before .corner .ensures))
+    (ap (λ m. F.placedDisc (Piece.Arc (s .part) (s .named)) m ++ F.placedDisc (Piece.Vertex (s .part) (s .starts)) (c .before .corner .result)) (c .before .before .before .arc .ensures) ∙ ap (λ m. F.placedDisc (Piece.Arc (s .part) (s .named)) (K.arcOf (s .cut) (s .seg)) ++ F.placedDisc (Piece.Vertex (s .part) (s .starts)) m) (c .before .corner .ensures))
     (grown-then (grown-then (c .before .before .before .before .add-face .ensures) (c .before .before .add-disc .ensures)) (c .add-disc2 .ensures))
 
 pub read-seg-spec : {M : Type 1} → statement M

@@ -1,6 +1,6 @@
 use borrow.Author.Needs.{needs}
-use Rattle.sides.proofs.right_of.Statement.{statement}
-use Rattle.sides.proofs.right_of.Tie as tie
+use Rattle.corners.proofs.right_of.Statement.{statement}
+use Rattle.corners.proofs.right_of.Tie as tie
 
 enum-known-d : tie.Need-enum-known-d
 enum-known-d c = search needs

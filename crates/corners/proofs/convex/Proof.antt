@@ -1,7 +1,7 @@
 use mathlib.Core.Path.{refl}
-use Rattle.sides.specs.Features.{convexOf}
-use Rattle.sides.proofs.convex.Statement.{statement}
-use Rattle.sides.proofs.convex.Tie as tie
+use Rattle.corners.specs.Corners.{convexOf}
+use Rattle.corners.proofs.convex.Statement.{statement}
+use Rattle.corners.proofs.convex.Tie as tie
 
 returns : tie.Need-returns
 unfolding convexOf

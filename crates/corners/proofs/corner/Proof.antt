@@ -1,6 +1,6 @@
 use borrow.Author.Needs.{needs}
-use Rattle.sides.proofs.corner.Statement.{statement}
-use Rattle.sides.proofs.corner.Tie as tie
+use Rattle.corners.proofs.corner.Statement.{statement}
+use Rattle.corners.proofs.corner.Tie as tie
 
 enum-known-previous : tie.Need-enum-known-previous
 enum-known-previous c = search needs

@@ -1,6 +1,6 @@
 use borrow.Author.Needs.{needs}
-use Rattle.sides.proofs.run_back.Statement.{statement}
-use Rattle.sides.proofs.run_back.Tie as tie
+use Rattle.corners.proofs.run_back.Statement.{statement}
+use Rattle.corners.proofs.run_back.Tie as tie
 
 enum-known-seg : tie.Need-enum-known-seg
 enum-known-seg c = search needs

@@ -1,6 +1,6 @@
 use borrow.Author.Needs.{needs}
-use Rattle.sides.proofs.arc.Statement.{statement}
-use Rattle.sides.proofs.arc.Tie as tie
+use Rattle.corners.proofs.arc.Statement.{statement}
+use Rattle.corners.proofs.arc.Tie as tie
 
 returns : tie.Need-returns
 returns c = search needs

@@ -1,7 +1,7 @@
 use borrow.Author.Needs.{needs}
-use Rattle.sides.specs.Features.{normalOf}
-use Rattle.sides.proofs.normal.Statement.{statement}
-use Rattle.sides.proofs.normal.Tie as tie
+use Rattle.corners.specs.Corners.{normalOf}
+use Rattle.corners.proofs.normal.Statement.{statement}
+use Rattle.corners.proofs.normal.Tie as tie
 
 new-requires : tie.Need-new-requires
 new-requires c κs = search needs

@@ -1,8 +1,8 @@
 use mathlib.Core.Path.{sym, _∙_}
 use borrow.Author.Needs.{needs}
-use Rattle.sides.specs.Features.{endsNormals}
-use Rattle.sides.proofs.ends_normals.Statement.{statement}
-use Rattle.sides.proofs.ends_normals.Tie as tie
+use Rattle.corners.specs.Corners.{faceOf}
+use Rattle.corners.proofs.face.Statement.{statement}
+use Rattle.corners.proofs.face.Tie as tie
 
 enum-known-seg : tie.Need-enum-known-seg
 enum-known-seg c = search needs
@@ -20,27 +20,27 @@ enum-known-seg-2 : tie.Need-enum-known-seg-2
 enum-known-seg-2 c = search needs
 
 returns : tie.Need-returns
-unfolding endsNormals
+unfolding faceOf
 returns c =
     let t1 = c .before .before .before .before .before .seg .given .1 in
     let t2 = sym (c .before .before .before .normal .ensures) ∙ c .before .n .given .1 in
     simp (t1, t2)
 
 returns-2 : tie.Need-returns-2
-unfolding endsNormals
+unfolding faceOf
 returns-2 c =
     let t1 = c .before .before .before .before .seg .given .1 in
     let t2 = sym (c .before .before .normal .ensures) ∙ c .enum-told .given .1 in
     simp (t1, t2)
 
 returns-3 : tie.Need-returns-3
-unfolding endsNormals
+unfolding faceOf
 returns-3 c =
     let t1 = c .before .seg2 .given .1 in
     simp (t1)
 
-pub ends-normals-spec : {M : Type 1} → statement M
-ends-normals-spec =
+pub face-spec : {M : Type 1} → statement M
+face-spec =
     tie.close
     (tie.spec
     enum-known-seg

@@ -1,8 +1,8 @@
 use mathlib.Core.Path.{sym, _∙_}
 use borrow.Author.Needs.{needs}
-use Rattle.sides.specs.Features.{vertexOf}
-use Rattle.sides.proofs.vertex.Statement.{statement}
-use Rattle.sides.proofs.vertex.Tie as tie
+use Rattle.corners.specs.Corners.{vertexOf}
+use Rattle.corners.proofs.vertex.Statement.{statement}
+use Rattle.corners.proofs.vertex.Tie as tie
 
 ends-normals-requires : tie.Need-ends-normals-requires
 ends-normals-requires c κs = search needs
