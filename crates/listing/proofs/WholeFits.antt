@@ -15,9 +15,10 @@ use Rattle.bodies.specs.declared.pose.Pose.{Pose}
 use Rattle.shown_rows.specs.Rows.{rowsChecked}
 use Rattle.sheet.specs.Read.{sheetOf}
 use Rattle.sheet.specs.declared.Sheet.{Sheet}
-use Rattle.listing.specs.Listing.{refusal, readIf, posedIf, poseOf, posedLines, sheetIf, listingOf, longest}
-use Rattle.listing.proofs.WholeSizes.{all-fits}
-use Rattle.listing.proofs.WholeLaws.{refusal-few}
+use Rattle.reading_lines.specs.Readings.{refusal, readIf, longest}
+use Rattle.listing.specs.Listing.{posedIf, poseOf, posedLines, sheetIf, listingOf}
+use Rattle.reading_lines.proofs.WholeSizes.{all-fits}
+use Rattle.reading_lines.proofs.WholeLaws.{refusal-few}
 
 refusal-fits : (p : Problem) → length (refusal p) ≤ longest
 refusal-fits p = omega (arith, refusal-few (numberOf p) (placeOf p))

@@ -1,4 +1,2 @@
-// The lines of a listing, and the listing of a sheet text.
-mod digits;
-mod lines;
+// The listing of a sheet text.
 pub mod whole;

@@ -2,8 +2,9 @@
 ghost use mathlib.Core.Path.{_≡_};
 ghost use lib.ListN.{length};
 ghost use lib.Seq.{sets};
-ghost use Rattle.listing.specs.Listing.{listingOf, longest};
-use listing::whole::Listed;
+ghost use Rattle.reading_lines.specs.Readings.{longest};
+ghost use Rattle.listing.specs.Listing.{listingOf};
+use reading_lines::whole::Listed;
 
 // How many bytes the longest listing has: the size of `out`.
 #[no_mangle]

@@ -1,0 +1,7 @@
+pub mod DigitLaws
+pub mod LineLaws
+pub mod ReadBack
+pub mod Worked
+pub mod WholeSizes
+pub mod WholeRead
+pub mod WholeLaws

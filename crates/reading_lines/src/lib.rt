@@ -1,0 +1,4 @@
+// The lines of a listing, and those of a whole reading.
+mod digits;
+mod lines;
+pub mod whole;
