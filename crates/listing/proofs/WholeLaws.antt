@@ -3,7 +3,6 @@ use Prim.Native.Nat.{ℕ, suc, _+_, _-_, _<_, _≤_}
 use native.Mathlib.Omega.{arith}
 use native.Mathlib.Numerals.{add-one}
 use mathlib.Core.Path.{_≡_, refl, sym, ap, subst, _∙_}
-use mathlib.Core.Bool.{Bool, true, false, not, false≢true}
 use mathlib.Core.List.{List, [], _∷_, _++_, map, map-append}
 use lib.Dec.{eqb}
 use lib.ListN.{length, getD, set, take, length-set}
@@ -13,7 +12,6 @@ use mir.Val.{Val}
 use denote.Laws.{Is}
 use borrow.Author.Tests.{eqb-true}
 use Rattle.laws.proofs.Fill.{map-take}
-use Rattle.bodies.specs.Check.{isAccepted, andThen, refusedIf}
 use Rattle.mechanism.specs.Check.{checkOf}
 use Rattle.bodies.specs.Pose.{posedOf}
 use Rattle.mechanism.specs.Pose.{poseChecked}
@@ -24,6 +22,7 @@ use Rattle.bodies.specs.declared.Problem.{Problem}
 use Rattle.bodies.specs.declared.Problem.the-variants.{PoseNotMatching}
 use Rattle.bodies.specs.declared.pose.Entry.{Entry}
 use Rattle.bodies.specs.declared.pose.Posed.{Posed}
+use Rattle.bodies.proofs.Checks.{refused-not, passed, passed-if}
 use Rattle.mechanism.proofs.Checks.{accepted-few}
 use Rattle.bodies.proofs.Known.{array-length}
 use Rattle.bodies.proofs.pose.Entry as E
@@ -84,17 +83,6 @@ module _ (m : Mechanism) (e : Entries) (margin : Float) {p : Posed} (k : p ≡ p
       ∙ ap (λ (a : Posed). readLines m (a .pose) margin) (sym k)
 
 -- ---- an accepted text has as many entries as coordinates, sixteen at most
-refused-not : (p : Problem) → Refused p ≡ Accepted → ⊥
-refused-not p e = false≢true (ap isAccepted e)
-
-passed : (c next : Checked) → andThen c next ≡ Accepted → (c ≡ Accepted) × (next ≡ Accepted)
-passed Accepted next e = (refl, e)
-passed (Refused p) next e = absurd (refused-not p e)
-
-passed-if : (b : Bool) (p : Problem) → refusedIf (not b) p ≡ Accepted → b ≡ true
-passed-if true p e = refl
-passed-if false p e = absurd (refused-not p e)
-
 sheet-few : (s : Sheet) → sheetChecked s ≡ Accepted → s .entries .count ≤ 16
 unfolding sheetChecked
 sheet-few s h =

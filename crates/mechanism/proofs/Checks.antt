@@ -8,7 +8,7 @@ use borrow.Author.Tests.{ltb-false, lt-ltb, le-ltb}
 use Rattle.laws.proofs.Choice.{and-yes, and-no, or-no, neither, both, not-yes}
 use Rattle.laws.proofs.Finite.{any-none, any-all, first-none}
 use Rattle.laws.proofs.Sums.{sum-more, sum-mono}
-use Rattle.bodies.proofs.Checks.{stops, goes-on, stops-if, goes-on-if, refused-not, passed, passed-if, accepted-is, bodies-rooted}
+use Rattle.bodies.proofs.Checks.{stops, goes-on, stops-if, goes-on-if, refused-not, passed, passed-if, accepted-is}
 use Rattle.mechanism.specs.Pose.{poseChecked}
 use Rattle.bodies.specs.Pose.{bodiesPosed}
 use mathlib.Core.List.{List}
@@ -18,7 +18,6 @@ use Rattle.mechanism.proofs.Worked as worked
 use Rattle.mechanism.specs.Description.{partAt, pairAt, segsOf, startOfPart, sideLength}
 use Rattle.bodies.specs.Check.{isAccepted, andThen, refusedIf, bodiesChecked, bodiesStand}
 use Rattle.mechanism.specs.Check.{sideOver, pairOver, partsOver, pairsOver, limitPassed, directionMissing, partsChecked, partDraws, withDrawn, withRange, sideBody, sidesChecked, pairsChecked, checkOf, callChecked, FewParts, FewPairs, Few}
-use Rattle.bodies.specs.Pose.{Rooted}
 use Rattle.mechanism.specs.declared.Parts.{Parts}
 use Rattle.mechanism.specs.declared.Pairs.{Pairs}
 use Rattle.mechanism.specs.declared.Mechanism.{Mechanism}
@@ -200,9 +199,6 @@ module _ (m : Mechanism) (e : checkOf m ≡ Accepted) where
 
   pub accepted-stand : bodiesStand (m .bodies) ≡ Accepted
   accepted-stand = stand-is m no-limit ∙ accepted-is (bodiesChecked (m .bodies)) bodies-pass
-
-  pub accepted-rooted : Rooted (m .bodies) (m .bodies .coords)
-  accepted-rooted = bodies-rooted (m .bodies) (accepted-few .bodies) bodies-pass
 
   -- no side passes a limit
   pub accepted-sides : (i : ℕ) → i < m .pairs .count → (sideOver (pairAt (m .pairs) i .a) ≡ false) × (sideOver (pairAt (m .pairs) i .b) ≡ false)

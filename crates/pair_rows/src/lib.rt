@@ -231,7 +231,7 @@ fn put_there(
     to
 }
 
-// The same, and nothing where the arrays are too short for n rows more, or a number is above its limit.
+// Writes the rows shown of the first n candidates behind the `at` rows that are there; nothing where the arrays are too short for n rows more, or a number is above its limit.
 pub fn put_shown(
     places: &mut [Place],
     values: &mut [Value],

@@ -29,7 +29,6 @@ use material::Spot;
 use mechanism::features::Piece;
 use mechanism::rows::Place;
 use mechanism::rows::Value;
-use proximities::Candidate;
 use proximities::center_on;
 use proximities::found_deep;
 use proximities::on_face_a;

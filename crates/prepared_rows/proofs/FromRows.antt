@@ -1,27 +1,25 @@
 -- What is written of the pairs of a prepared description is their rows, with their gradients and slips. Assumes nothing.
 use Prim.Native.Nat.{ℕ, _+_, _*_, _≤_}
 use native.Mathlib.Omega.{arith}
-use native.Mathlib.Nat.{mul-le-mul, zero-mul, zero-add}
-use mathlib.Core.Path.{_≡_, refl, sym, ap, ap₂, subst, _∙_}
+use native.Mathlib.Nat.{mul-le-mul}
+use mathlib.Core.Path.{_≡_, refl, sym, ap, ap₂, _∙_}
 use mathlib.Core.Bool.{Bool, true, false, cond, not, _&&_, _||_, false≢true}
 use mathlib.Core.List.{List, [], map}
 use lib.Dec.{leb, ltb, eqb}
 use lib.Ieee.{Float}
 use lib.ListN.{length, getD, length-map}
 use lib.Seq.{sets}
-use borrow.Author.Tests.{le-leb, leb-true, ltb-false}
+use borrow.Author.Tests.{le-leb, ltb-false}
 use Rattle.laws.specs.Loops.{anyIn}
-use Rattle.laws.proofs.Choice.{and-yes, cond-yes, both, neither}
+use Rattle.laws.proofs.Choice.{and-yes, cond-yes, neither}
 use Rattle.geometry.specs.Geometry.{vectorOf}
-use Rattle.bodies.specs.Check.{andThen, refusedIf, isAccepted, bodiesStand}
+use Rattle.bodies.specs.Check.{andThen, refusedIf, isAccepted, bodiesStand, bodiesChecked}
 use Rattle.mechanism.specs.Rows.{placeRow, valueRow}
 use Rattle.bodies.specs.declared.Bodies.{Bodies}
 use Rattle.bodies.specs.declared.Checked.{Checked}
 use Rattle.bodies.specs.declared.Checked.the-variants.{Accepted, Refused}
-use Rattle.bodies.specs.declared.Problem.{Problem}
 use Rattle.bodies.specs.declared.Problem.the-variants.{LimitPassed, PoseNotMatching, NoSuchThing, TooFewRows}
 use Rattle.bodies.specs.declared.pose.Pose.{Pose}
-use Rattle.mechanism.specs.declared.rows.Row.{Row}
 use Rattle.sides.specs.declared.contacts.PairFeatures.{PairFeatures}
 use Rattle.strips.specs.Strips.{sideAt, rowA, rowB, pairIn, factsFrom}
 use Rattle.strips.specs.declared.SideFacts.{SideFacts}
@@ -31,11 +29,12 @@ use Rattle.candidates.specs.Candidates.{featuresCandidates, centerCandidates}
 use Rattle.prepared_candidates.specs.Prepared.{boundIn, roomForPair, candidatesFrom, materialOfSide}
 use Rattle.proximities.specs.declared.Candidate.{Candidate}
 use Rattle.proximities.proofs.Wrote.{wrote-same, wrote-near, wrote-named}
-use Rattle.shown_rows.specs.declared.RowsAnswer.{RowsAnswer}
 use Rattle.pair_rows.specs.declared.Source.{Source}
+use Rattle.bodies.proofs.Checks.{passed, no-refusal}
+use Rattle.shown_rows.proofs.Answer.{has-room-for}
 use Rattle.pair_rows.proofs.Behind.{room-there, put-was-there}
 use Rattle.pair_rows.specs.PairRows.{PutShown, roomBehind, shownIn, Put, Room, placeIn, leftOf}
-use Rattle.shown_rows.specs.Rows.{gradOf, slipOf, shownOf, rowOf, candidateAt, answerIf, ifAccepted}
+use Rattle.shown_rows.specs.Rows.{gradOf, slipOf, shownOf, rowOf, candidateAt}
 use Rattle.prepared_rows.specs.Prepared.{rowsFrom, gradsFrom, slipsFrom, allRows, boundsIn, fallsOff, roomIn, preparedChecked}
 use Rattle.shown_rows.proofs.Agree.{places-same, values-same, grads-same, slips-same}
 use Rattle.pair_rows.proofs.Along.{along-long}
@@ -174,18 +173,7 @@ module _ (faces : List (List Float)) (fnames : List (List ℕ)) (discs : List (L
 
 -- ---- refusals
 pub has-room-in : (b : Bodies) (sides : List (List ℕ)) (n : ℕ) (places : List (List ℕ)) (values : List (List Float)) (grad slip : List Float) → roomIn b sides n (length places) (length values) (length grad) (length slip) ≡ true → Room (b .coords) 0 (boundsIn sides n) places values grad slip
-has-room-in b sides n places values grad slip e =
-    let k = boundsIn sides n in
-    let x = both (leb k (length places) && leb k (length values)) (leb (k * b .coords) (length grad) && leb (k * b .coords) (length slip)) e in
-    let y = both (leb k (length places)) (leb k (length values)) (x .0) in
-    let w = both (leb (k * b .coords) (length grad)) (leb (k * b .coords) (length slip)) (x .1) in
-    let z = zero-add k in
-    record {
-      places-room = subst (λ (j : ℕ). j ≤ length places) (sym z) (leb-true k (length places) (y .0));
-      values-room = subst (λ (j : ℕ). j ≤ length values) (sym z) (leb-true k (length values) (y .1));
-      grad-room = subst (λ (j : ℕ). j * b .coords ≤ length grad) (sym z) (leb-true (k * b .coords) (length grad) (w .0));
-      slip-room = subst (λ (j : ℕ). j * b .coords ≤ length slip) (sym z) (leb-true (k * b .coords) (length slip) (w .1));
-    }
+has-room-in b sides n places values grad slip e = has-room-for (b .coords) (boundsIn sides n) places values grad slip e
 
 -- the body of a side that was read by its row
 pub body-read : (sides : List (List ℕ)) (j : ℕ) {s : SideFacts} {k : ℕ} → s ≡ factsFrom (getD sides k []) → k ≡ j → s .body ≡ sideAt sides j .body
@@ -204,14 +192,10 @@ checked-is b n sides q w x y z {many} {stand} {fits} {off} {room} e f g h k =
     ∙ ap (λ (t : Bool). stages many stand t (anyIn (fallsOff (b .count) sides) n 0) (roomIn b sides n w x y z)) g
     ∙ ap (λ (t : Bool). stages many stand fits t (roomIn b sides n w x y z)) h ∙ ap (stages many stand fits off) k
 
-no-refusal : (t : Bool) (p : Problem) (next : Checked) → andThen (refusedIf t p) next ≡ Accepted → t ≡ false
-no-refusal true p next e = absurd (false≢true (ap isAccepted e))
-no-refusal false p next e = refl
-
 pub stand-few : (b : Bodies) → bodiesStand b ≡ Accepted → (b .count ≤ 15) × (b .coords ≤ 16)
 unfolding bodiesStand
 stand-few b e =
-    let n = neither (ltb 15 (b .count)) (ltb 16 (b .coords)) (no-refusal (ltb 15 (b .count) || ltb 16 (b .coords)) LimitPassed _ e) in
+    let n = neither (ltb 15 (b .count)) (ltb 16 (b .coords)) (no-refusal (ltb 15 (b .count) || ltb 16 (b .coords)) LimitPassed (passed (refusedIf (ltb 15 (b .count) || ltb 16 (b .coords)) LimitPassed) (bodiesChecked b) e .0)) in
     (ltb-false 15 (b .count) (n .0), ltb-false 16 (b .coords) (n .1))
 
 pub columns-few : (bound coords : ℕ) → bound ≤ 23296 → coords ≤ 16 → bound * coords ≤ 372736
@@ -219,46 +203,6 @@ columns-few bound coords h k = let p : bound * coords ≤ 23296 * 16 = mul-le-mu
 
 pub room-tested : (b : Bodies) (sides : List (List ℕ)) (n w x y z : ℕ) {bound : ℕ} {t : Bool} → bound ≡ boundsIn sides n → ((leb bound w && leb bound x) && (leb (bound * b .coords) y && leb (bound * b .coords) z)) ≡ t → roomIn b sides n w x y z ≡ t
 room-tested b sides n w x y z e f = ap (λ (k : ℕ). (leb k w && leb k x) && (leb (k * b .coords) y && leb (k * b .coords) z)) (sym e) ∙ f
-
--- ---- what is answered, for any refusals, rows, gradients and slips
-module _ (checked : Checked) (rows : List Row) (gs ss : List Float) (places : List (List ℕ)) (values : List (List Float)) (grad slip : List Float) where
-  abbrev Answered : RowsAnswer → List (List ℕ) → List (List Float) → List Float → List Float → Type 0
-  Answered r places′ values′ grad′ slip′ =
-      (r ≡ answerIf checked (length rows))
-      × ((places′ ≡ ifAccepted checked (sets places 0 (map placeRow rows)) places)
-      × ((values′ ≡ ifAccepted checked (sets values 0 (map valueRow rows)) values)
-      × ((grad′ ≡ ifAccepted checked (sets grad 0 gs) grad)
-      × (slip′ ≡ ifAccepted checked (sets slip 0 ss) slip))))
-
-  pub none-answered : {r : RowsAnswer} (p : Problem) → checked ≡ Refused p → r ≡ answerIf (Refused p) 0 → Answered r places values grad slip
-  none-answered p e a = (
-    a ∙ sym (ap (λ (c : Checked). answerIf c (length rows)) e),
-    (
-      sym (ap (λ (c : Checked). ifAccepted c (sets places 0 (map placeRow rows)) places) e),
-      (
-        sym (ap (λ (c : Checked). ifAccepted c (sets values 0 (map valueRow rows)) values) e),
-        (sym (ap (λ (c : Checked). ifAccepted c (sets grad 0 gs) grad) e), sym (ap (λ (c : Checked). ifAccepted c (sets slip 0 ss) slip) e)),
-      ),
-    ),
-  )
-
-  pub rows-answered : (coords : ℕ) {n : ℕ} {places′ : List (List ℕ)} {values′ : List (List Float)} {grad′ slip′ : List Float} → checked ≡ Accepted
-      → Put coords (map placeRow rows) (map valueRow rows) gs ss 0 n places places′ values values′ grad grad′ slip slip′
-      → Answered (record { checked = Accepted; count = n }) places′ values′ grad′ slip′
-  rows-answered coords e u =
-      let z = zero-mul coords in (
-        ap (λ (k : ℕ). answerIf Accepted k) (u .end ∙ zero-add (length (map placeRow rows)) ∙ length-map rows placeRow) ∙ sym (ap (λ (c : Checked). answerIf c (length rows)) e),
-        (
-          u .placed ∙ sym (ap (λ (c : Checked). ifAccepted c (sets places 0 (map placeRow rows)) places) e),
-          (
-            u .valued ∙ sym (ap (λ (c : Checked). ifAccepted c (sets values 0 (map valueRow rows)) values) e),
-            (
-              u .grads ∙ ap (λ (k : ℕ). sets grad k gs) z ∙ sym (ap (λ (c : Checked). ifAccepted c (sets grad 0 gs) grad) e),
-              u .slips ∙ ap (λ (k : ℕ). sets slip k ss) z ∙ sym (ap (λ (c : Checked). ifAccepted c (sets slip 0 ss) slip) e),
-            ),
-          ),
-        ),
-      )
 
 -- ---- of a call that is not refused
 stages-passed : (many : Bool) (stand : Checked) (fits off room : Bool) → stages many stand fits off room ≡ Accepted → (many ≡ false) × (room ≡ true)

@@ -22,7 +22,7 @@ use Rattle.strips.specs.declared.PartFacts.{PartFacts}
 use Rattle.strips.specs.declared.SideFacts.{SideFacts}
 
 -- ---- rows read
--- the floats k and k + 1 of a row
+-- the floats k and m of a row
 abbrev pub pointIn : List Float → ℕ → ℕ → Point
 pointIn l k m = record { x = getD l k nan; y = getD l m nan }
 
@@ -41,7 +41,7 @@ discFrom l = record { center = pointIn l 0 1; radius = getD l 2 nan; from = dirI
 abbrev pub pieceFrom : List ℕ → Piece
 pieceFrom l = pieceIn (getD l 0 0) (getD l 1 0) (getD l 2 0)
 
--- n, or m where it is more
+-- the lesser of n and m
 abbrev pub atMost : ℕ → ℕ → ℕ
 atMost n m = cond (ltb n m) n m
 

@@ -5,7 +5,8 @@ use borrow.Author.Tests.{lt-ltb, le-ltb, eq-eqb, ne-eqb}
 use Rattle.bodies.specs.Check.{bodiesStand}
 use Rattle.bodies.specs.declared.Checked.the-variants.{Accepted}
 use Rattle.prepared_rows.specs.Prepared.{allRows, allGrads, allSlips, preparedChecked}
-use Rattle.prepared_rows.proofs.FromRows.{checked-is, stand-few, columns-few, room-tested, has-room-in, none-answered, rows-answered}
+use Rattle.prepared_rows.proofs.FromRows.{checked-is, stand-few, columns-few, room-tested, has-room-in}
+use Rattle.shown_rows.proofs.Answer.{none-answered, rows-answered}
 use borrow.Author.Needs.{needs}
 use Rattle.prepared_rows.proofs.rows_in.Statement.{statement}
 use Rattle.prepared_rows.proofs.rows_in.Tie as tie
