@@ -1,13 +1,18 @@
 //! Readings of the original, for the texts that the program reading_calls reads.
 //!   readings answers       the original's readings for each text on standard input, as that program prints them
 //!   readings tally         how many accepted texts on standard input have what
+//!   readings records SEED  built with `--cfg records`: the rows of each accepted text on standard input, and made-up ones, through the static library `row_exports`; last line 'N equal, M different', in texts
 mod checks;
 mod contact;
 mod decided;
 mod geometry;
 mod mechanism;
+#[cfg(records)]
+mod records;
 mod registry;
 mod sheet;
+#[cfg(records)]
+mod splitmix;
 mod text;
 
 use contact::{Bearing, HowItBears, Piece, Row, Rows};
@@ -220,6 +225,24 @@ fn tally() {
     }
 }
 
+#[cfg(records)]
+fn records(seed: u64) {
+    let mut random = splitmix::Random(seed);
+    let (mut equal, mut different, mut rows) = (0, 0, 0);
+    for (i, text) in texts().iter().enumerate() {
+        let Ok(r) = read(text) else { continue };
+        rows += r.rows.len();
+        if records::compare(&r.rows, &mut random) {
+            equal += 1;
+        } else {
+            different += 1;
+            println!("text {i} is different");
+        }
+    }
+    println!("{rows} rows of readings");
+    println!("{equal} equal, {different} different");
+}
+
 fn main() {
     let args: Vec<String> = std::env::args().skip(1).collect();
     match args.iter().map(String::as_str).collect::<Vec<_>>().as_slice() {
@@ -230,6 +253,8 @@ fn main() {
             }
         }
         ["tally"] => tally(),
+        #[cfg(records)]
+        ["records", seed] => records(seed.parse().expect("a seed")),
         _ => eprintln!("usage: readings answers, readings tally"),
     }
 }

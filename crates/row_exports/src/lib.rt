@@ -1,0 +1,105 @@
+// Functions over rows for a caller in Rust or C, on plain numbers: for the comparison in oracle/. An exported function takes no enum, so that a row goes as its seven whole numbers and its five floats.
+ghost use mathlib.Core.Path.{_≡_};
+ghost use lib.ListN.{length};
+ghost use Rattle.mechanism.specs.Rows.{pairIn, gapIn, rowIn};
+ghost use Rattle.governing.specs.Governing.{governingOf, gapOf, recordsIn, rowEntries};
+ghost use Rattle.row_exports.specs.Numbers.{numberOr, gapOr, refusedBy, entriesOver, surfacesOf};
+use bodies::Checked;
+use governing::EntriesAnswer;
+use governing::MaybeGap;
+use governing::MaybeRow;
+use governing::gap_in;
+use governing::governing_in;
+use governing::row_entries;
+use mechanism::rows::Place;
+use mechanism::rows::Row;
+use mechanism::rows::Value;
+use mechanism::rows::row_from;
+
+// A row's number, or n where there is none.
+fn number_or(found: MaybeRow, n: usize) -> usize
+    ensures { λ r. ⌜ r ≡ numberOr found n ⌝ }
+{
+    match found {
+        MaybeRow::SomeRow(i) => i,
+        MaybeRow::NoRow => n,
+    }
+}
+
+// A gap, or x where there is none.
+fn gap_or(found: MaybeGap, x: f64) -> f64
+    ensures { λ r. ⌜ r ≡ gapOr found x ⌝ }
+{
+    match found {
+        MaybeGap::SomeGap(g) => g,
+        MaybeGap::NoGap => x,
+    }
+}
+
+// The number of the governing row of a pair among the first n rows, or among those that there are; n where there is none.
+#[no_mangle]
+pub extern "C" fn sewqirun_governing(
+    places: &[Place],
+    values: &[Value],
+    n: usize,
+    pair: usize,
+) -> usize
+    ensures { λ r. ⌜ r ≡ numberOr (governingOf (pairIn (now (places .entry))) (gapIn (now (values .entry))) (recordsIn n (length (now (places .entry))) (length (now (values .entry)))) pair) n ⌝ }
+{
+    number_or(governing_in(places, values, n, pair), n)
+}
+
+// Its gap, or x where there is none.
+#[no_mangle]
+pub extern "C" fn sewqirun_gap(
+    places: &[Place],
+    values: &[Value],
+    n: usize,
+    pair: usize,
+    x: f64,
+) -> f64
+    ensures { λ r. ⌜ r ≡ gapOr (gapOf (pairIn (now (places .entry))) (gapIn (now (values .entry))) (governingOf (pairIn (now (places .entry))) (gapIn (now (values .entry))) (recordsIn n (length (now (places .entry))) (length (now (values .entry)))) pair)) x ⌝ }
+{
+    gap_or(gap_in(places, values, n, pair), x)
+}
+
+fn refused_by(c: Checked) -> usize
+    ensures { λ r. ⌜ r ≡ refusedBy c ⌝ }
+{
+    match c {
+        Checked::Accepted => 0,
+        Checked::Refused(p) => p.number(),
+    }
+}
+
+// Writes the gradient of row i, or its slip, out of those of n rows, with 0.0 behind it, and answers 0; where there is no such row answers 12, and nothing is written.
+#[no_mangle]
+pub extern "C" fn sewqirun_row_entries(
+    out: &mut [f64; 16],
+    entries: &[f64],
+    coords: usize,
+    n: usize,
+    i: usize,
+) -> usize
+    ensures { λ r. ⌜ (r ≡ refusedBy (rowEntries (now (entries .entry)) coords n i .checked)) × (now (out .exit) ≡ entriesOver (now (out .entry)) (rowEntries (now (entries .entry)) coords n i)) ⌝ }
+{
+    let a = row_entries(entries, coords, n, i);
+    let c = a.checked;
+    let number = refused_by(c);
+    if number == 0 {
+        let entry = a.entry;
+        *out = entry;
+    }
+    number
+}
+
+// Writes where the surfaces of side A and of side B are by a row: x and y of A's, then of B's.
+#[no_mangle]
+pub extern "C" fn sewqirun_surfaces(out: &mut [f64; 4], place: &Place, value: &Value)
+    ensures { λ _. ⌜ now (out .exit) ≡ surfacesOf (rowIn (now (place .entry)) (now (value .entry))) ⌝ }
+{
+    let row = row_from(*place, *value);
+    let a = row.on_a();
+    let b = row.on_b();
+    *out = [a.x, a.y, b.x, b.y];
+}

@@ -1,0 +1,156 @@
+//! Rows through the static library `row_exports`, beside the original's: the governing row, its gap, gradients and slips by a row's number, the points of both surfaces.
+use crate::contact::{Feature, PartId, Piece, Row, Rows};
+use crate::geometry::{Dir, Point};
+use crate::splitmix::Random;
+
+// A row as the library takes it: its pair, and the letter, part and segment of both pieces; its gap, normal and point.
+type Place = [usize; 7];
+type Value = [f64; 5];
+
+// A lent slice goes as a pointer and a length.
+extern "C" {
+    #[rustfmt::skip]
+    fn sewqirun_governing(places: *const Place, places_count: usize, values: *const Value, values_count: usize, n: usize, pair: usize) -> usize;
+    #[rustfmt::skip]
+    fn sewqirun_gap(places: *const Place, places_count: usize, values: *const Value, values_count: usize, n: usize, pair: usize, x: f64) -> f64;
+    #[rustfmt::skip]
+    fn sewqirun_row_entries(out: *mut [f64; 16], entries: *const f64, count: usize, coords: usize, n: usize, i: usize) -> usize;
+    fn sewqirun_surfaces(out: *mut [f64; 4], place: *const Place, value: *const Value);
+}
+
+fn letters(piece: Piece) -> [usize; 3] {
+    match piece {
+        Piece::Segment { part, seg } => [0, part.0.into(), seg.into()],
+        Piece::Arc { part, seg } => [1, part.0.into(), seg.into()],
+        Piece::Vertex { part, seg } => [2, part.0.into(), seg.into()],
+        Piece::Center { part } => [3, part.0.into(), 0],
+    }
+}
+
+fn place(row: &Row) -> Place {
+    let (a, b) = (letters(row.feature.a), letters(row.feature.b));
+    [row.pair.into(), a[0], a[1], a[2], b[0], b[1], b[2]]
+}
+
+fn value(row: &Row) -> Value {
+    let n = row.normal.vector();
+    [row.gap, n.x, n.y, row.point.x, row.point.y]
+}
+
+// One pattern for all NaNs.
+fn bits(x: f64) -> u64 {
+    if x.is_nan() { 0x7ff8_0000_0000_0000 } else { x.to_bits() }
+}
+
+fn all_bits(all: &[f64]) -> Vec<u64> {
+    all.iter().map(|&x| bits(x)).collect()
+}
+
+// The governing row and its gap of every pair that a text can have, of the number behind and of the last number; the first n rows are looked at, where more are lent.
+fn governing_alike(rows: &[Row], n: usize) -> bool {
+    let places: Vec<Place> = rows.iter().map(place).collect();
+    let values: Vec<Value> = rows.iter().map(value).collect();
+    let (p, v, k) = (places.as_ptr(), values.as_ptr(), rows.len());
+    let rows = Rows::of(rows[..n.min(k)].to_vec());
+    (0..=17).chain([u16::MAX]).all(|pair| {
+        let number = usize::from(pair);
+        let found = unsafe { sewqirun_governing(p, k, v, k, n, number) };
+        let gaps = [0.5, -0.25].map(|none| unsafe { (none, sewqirun_gap(p, k, v, k, n, number, none)) });
+        found == rows.governing(pair).unwrap_or(n)
+            && gaps.iter().all(|&(none, gap)| bits(gap) == bits(rows.gap(pair).unwrap_or(none)))
+    })
+}
+
+fn surfaces_alike(rows: &[Row]) -> bool {
+    rows.iter().all(|row| {
+        let mut out = [f64::NAN; 4];
+        unsafe { sewqirun_surfaces(&mut out, &place(row), &value(row)) };
+        let (a, b) = (row.on_a(), row.on_b());
+        all_bits(&out) == all_bits(&[a.x, a.y, b.x, b.y])
+    })
+}
+
+// Gradients or slips by the row's number, and 12 with nothing written for the number behind the last.
+fn entries_alike(entries: &[f64], coords: usize, n: usize, row: impl Fn(usize) -> Vec<f64>) -> bool {
+    (0..=n).all(|i| {
+        let mut out = [0.375; 16];
+        let refused = unsafe { sewqirun_row_entries(&mut out, entries.as_ptr(), entries.len(), coords, n, i) };
+        if i == n {
+            return refused == 12 && out == [0.375; 16];
+        }
+        refused == 0
+            && all_bits(&out[..coords]) == all_bits(&row(i))
+            && all_bits(&out[coords..]) == vec![0; 16 - coords]
+    })
+}
+
+// All rows, some of them, and more than there are.
+fn alike(rows: &[Row], random: &mut Random) -> bool {
+    let k = rows.len();
+    [k, random.next() as usize % (k + 1), k + 3].into_iter().all(|n| governing_alike(rows, n)) && surfaces_alike(rows)
+}
+
+fn some_float(random: &mut Random) -> f64 {
+    const ODD: [f64; 8] = [0.0, -0.0, f64::NAN, f64::INFINITY, f64::NEG_INFINITY, 5e-324, -0.001, f64::MAX];
+    match random.next() % 4 {
+        0 => ODD[random.next() as usize % 8],
+        1 => f64::from_bits(random.next()),
+        _ => (random.next() % 9) as f64 * 0.25 - 1.0,
+    }
+}
+
+fn some_piece(random: &mut Random) -> Piece {
+    let (part, seg) = (PartId(random.next() as u16), random.next() as u16);
+    match random.next() % 4 {
+        0 => Piece::Segment { part, seg },
+        1 => Piece::Arc { part, seg },
+        2 => Piece::Vertex { part, seg },
+        _ => Piece::Center { part },
+    }
+}
+
+fn some_row(random: &mut Random) -> Row {
+    Row {
+        pair: match random.next() % 8 {
+            0 => random.next() as u16,
+            1 => u16::MAX,
+            k => (k % 3) as u16,
+        },
+        feature: Feature { a: some_piece(random), b: some_piece(random) },
+        gap: some_float(random),
+        normal: Dir::new(some_float(random), some_float(random)).unwrap_or(Dir::Y),
+        point: Point::new(some_float(random), some_float(random)),
+    }
+}
+
+// A reading's rows in another order, some with another gap or another pair; rows that no reading made among them.
+fn made_up(rows: &[Row], random: &mut Random) -> Vec<Row> {
+    let mut made: Vec<Row> = rows.to_vec();
+    for i in 0..made.len() {
+        let j = random.next() as usize % made.len();
+        made.swap(i, j);
+        match random.next() % 4 {
+            0 => made[i].gap = some_float(random),
+            1 => made[i].pair = (random.next() % 17) as u16,
+            2 => made[i].gap = made[j].gap,
+            _ => {}
+        }
+    }
+    for _ in 0..random.next() % 12 {
+        let at = random.next() as usize % (made.len() + 1);
+        made.insert(at, some_row(random));
+    }
+    made
+}
+
+/// Whether the library answers as the original of the rows of one reading, of the same in the opposite order, and of two lists of made-up rows.
+pub fn compare(rows: &Rows, random: &mut Random) -> bool {
+    let coords = rows.coords();
+    let mut turned = rows.rows().to_vec();
+    turned.reverse();
+    alike(rows.rows(), random)
+        && alike(&turned, random)
+        && (0..2).all(|_| alike(&made_up(rows.rows(), random), random))
+        && entries_alike(rows.all_grad(), coords, rows.len(), |i| rows.grad(i).to_vec())
+        && entries_alike(rows.all_slip(), coords, rows.len(), |i| rows.slip(i).to_vec())
+}
