@@ -18,7 +18,7 @@ use Rattle.laws.proofs.Order.{lt-trans, lt-eq, eq-lt}
 use Rattle.ieee.specs.Consts.{zeroF}
 use Rattle.ieee.proofs.MinRoot.{lt-le, le-cases, le-not-lt}
 use Rattle.geometry.specs.declared.Point.{Point}
-use Rattle.material.specs.Material.{Edge, nowhere, edgeAt, crossOf, turnedBy, insideOf, polyAt, pointOf, pointsOf, between, materialOf, holdsOf, squareDepth, depthOf}
+use Rattle.material.specs.Material.{Edge, nowhere, edgeAt, crossOf, turnedBy, insideOf, polyAt, pointOf, pointsOf, between, materialOf, holdsOf, squareDepth}
 use Rattle.material.specs.Range.{Covers, lowOf, highOf, ordinate, outsideOf}
 
 -- ---- the order, with `le` on one side
@@ -125,12 +125,7 @@ module _ (l : List (List Float)) (starts : List ℕ) (solids all : ℕ) (lo hi :
     | inr t ↦ not-held p l false (c .over (p .y) t) starts solids all
   ]
 
-  -- THE LAW: outside the range of all points the depth is zero
-  pub outside-depth : outsideOf lo hi (p .y) ≡ true → depthOf (materialOf l starts solids all) p ≡ zeroF
-  unfolding depthOf
-  outside-depth h = cond-no _ _ (outside-held h)
-
-  -- and so is its square
+  -- THE LAW: outside the range of all points the square of the depth is zero
   pub within-square : cond (outsideOf lo hi (p .y)) zeroF (squareDepth (materialOf l starts solids all) p) ≡ squareDepth (materialOf l starts solids all) p
   unfolding squareDepth
   within-square = go (outsideOf lo hi (p .y)) refl

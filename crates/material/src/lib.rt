@@ -1,4 +1,4 @@
-// Drawn material as polygons in lent arrays: inside, depth, and the deepest of many points (contact/rows.rs: `Material`, `inside`).
+// Drawn material as polygons in lent arrays: inside, depth, and the largest square of the depths of many points (contact/rows.rs: `Material`, `inside`).
 ghost use mathlib.Core.Path.{_≡_};
 ghost use mathlib.Core.Bool.{false, cond};
 ghost use Prim.Native.Nat.{_-_, _%_, _<_, _≤_};
@@ -7,7 +7,7 @@ ghost use lib.Ieee.{isNan};
 ghost use Rattle.laws.specs.Lists.{listIn, foldl, any};
 ghost use Rattle.ieee.specs.Consts.{zeroF};
 ghost use Rattle.ieee.specs.Num.{minOf};
-ghost use Rattle.material.specs.Material.{crossOf, insideOf, holdsOf, squareOf, squareDepth, depthOf, deepestOf, pointsOf, between, polyAt, materialOf, edgesOf};
+ghost use Rattle.material.specs.Material.{crossOf, insideOf, holdsOf, squareOf, squareDepth, depthOf, deepestSquare, pointsOf, between, polyAt, materialOf, edgesOf};
 ghost use Rattle.material.specs.Range.{lowOf, highOf, Covers, outsideOf};
 use geometry::Point;
 use ieee::num::choose;
@@ -257,27 +257,8 @@ pub fn square_within(
     }
 }
 
-// The same as `depth`, with the points outside a range that covers all polygons settled at once.
-fn depth_in(
-    points: &[Spot],
-    starts: &[usize],
-    solids: usize,
-    all: usize,
-    range: Range,
-    p: Point,
-) -> f64
-    requires { ⌜ Covers (now points) (length (now points)) (range .lo) (range .hi) ⌝ }
-    ensures { λ r. ⌜ r ≡ depthOf (materialOf (now (points .entry)) (now (starts .entry)) solids all) p ⌝ }
-{
-    if is_outside(range.lo, range.hi, p.y) {
-        0.0
-    } else {
-        depth(points, starts, solids, all, p)
-    }
-}
-
-// The deepest of `from` and the depths of the samples.
-pub fn deepest(
+// The largest of `from` and the squares of the depths of the samples.
+pub fn deepest_square(
     points: &[Spot],
     starts: &[usize],
     solids: usize,
@@ -285,7 +266,7 @@ pub fn deepest(
     samples: &[Spot],
     from: f64,
 ) -> f64
-    ensures { λ r. ⌜ r ≡ deepestOf (materialOf (now (points .entry)) (now (starts .entry)) solids all) from (pointsOf (now (samples .entry))) ⌝ }
+    ensures { λ r. ⌜ r ≡ deepestSquare (materialOf (now (points .entry)) (now (starts .entry)) solids all) from (pointsOf (now (samples .entry))) ⌝ }
 {
     let range = y_range(points);
     let n = samples.len();
@@ -295,7 +276,7 @@ pub fn deepest(
         let v = samples[k];
         k += 1;
         let p = Point { x: v[0], y: v[1] };
-        d = max(d, depth_in(points, starts, solids, all, range, p));
+        d = max(d, square_within(points, starts, solids, all, range, p));
     }
     d
 }

@@ -2,7 +2,7 @@
 use Prim.Native.Nat.{ℕ, _+_, _-_, _<_, _≤_}
 use native.Mathlib.Nat.{add-zero, sub-zero}
 use mathlib.Core.Path.{_≡_, sym, ap, ap₂, subst, _∙_}
-use mathlib.Core.Bool.{true, false}
+use mathlib.Core.Bool.{Bool, true, false}
 use mathlib.Core.List.{List, map}
 use lib.Ieee.{Float}
 use Rattle.laws.specs.Lists.{listIn, foldl}
@@ -20,11 +20,8 @@ use Rattle.material.specs.Material.{Material, squareDepth, deepestOf, deepestSq
 use Rattle.material.proofs.Squares.{PlainNumber, zero-root, deepest-root, deepest-plain}
 use Rattle.strips.specs.Strips.{partAt, pointAt}
 use Rattle.strips.specs.declared.PartFacts.{PartFacts}
-use Rattle.drawing.specs.Drawing.{chosenAs}
-use Rattle.drawing.specs.Prepared.{partsIn}
-use Rattle.drawing.specs.declared.Chosen.{Chosen}
 use Rattle.drawing.proofs.Lays.{turn-from, done-from}
-use Rattle.overlap.specs.Prepared.{samplesIn, sunkIn}
+use Rattle.overlap.specs.Prepared.{samplesIn}
 
 -- ---- over the samples of a part, f i of them from `first` on, each placed
 module _ (m : Material) (place : Point → Point) (f : ℕ → Point) (first count : ℕ) where
@@ -46,39 +43,40 @@ module _ (m : Material) (place : Point → Point) (f : ℕ → Point) (first cou
   unfolding foldl
   squares-end d i h = ap (foldl step d) (done-from f first count i h)
 
--- ---- over the parts that are sampled
-module _ (sampled : List (List Float)) (parts : List (List ℕ)) (q : Pose) (w : Chosen) (m : Material) where
+-- ---- over the parts that are sampled, those of n that are chosen
+module _ (m : Material) (samples : ℕ → List Point) (chosen : ℕ → Bool) (n : ℕ) where
   abbrev sink : Float → ℕ → Float
-  sink d i = deepestOf m d (samplesIn sampled parts q i)
+  sink d i = deepestOf m d (samples i)
 
   -- what is left to do from part i on, d being the square of the depth so far
   abbrev pub sunkFrom : Float → ℕ → Float
-  sunkFrom d i = foldl sink (rootOf d) (filterIn (chosenAs w 1) (partsIn parts - i) i)
+  sunkFrom d i = foldl sink (rootOf d) (filterIn chosen (n - i) i)
 
-  pub sunk-start : sunkFrom zeroF 0 ≡ sunkIn sampled parts q w m
-  unfolding sunkIn
-  sunk-start = ap₂ (λ (x : Float) (k : ℕ). foldl sink x (filterIn (chosenAs w 1) k 0)) zero-root (sub-zero (partsIn parts))
+  pub sunk-start : sunkFrom zeroF 0 ≡ foldl sink zeroF (filterIn chosen n 0)
+  sunk-start = ap₂ (λ (x : Float) (k : ℕ). foldl sink x (filterIn chosen k 0)) zero-root (sub-zero n)
 
-  module _ (d : Float) {e : Float} {p : PartFacts} {place : Placement} (i : ℕ) (part : p ≡ partAt parts i) (placed : place ≡ placementAt q (p .body)) (now : PlainNumber d)
-      (taken : e ≡ deepestSquare m d (map (worldOf place) (listIn (pointAt sampled) (p .samples) (p .sampled)))) where
-    samples-taken : e ≡ deepestSquare m d (samplesIn sampled parts q i)
-    unfolding samplesIn
-    samples-taken =
-        taken ∙ ap (λ (k : Placement). deepestSquare m d (map (worldOf k) (listIn (pointAt sampled) (p .samples) (p .sampled)))) placed
-        ∙ ap (λ (p : PartFacts). deepestSquare m d (map (worldOf (placementAt q (p .body))) (listIn (pointAt sampled) (p .samples) (p .sampled)))) part
-
+  module _ (d : Float) {e : Float} (i : ℕ) (now : PlainNumber d) (taken : e ≡ deepestSquare m d (samples i)) where
     pub sunk-plain : PlainNumber e
-    sunk-plain = subst PlainNumber (sym samples-taken) (deepest-plain m (samplesIn sampled parts q i) d now)
+    sunk-plain = subst PlainNumber (sym taken) (deepest-plain m (samples i) d now)
 
-    pub sunk-more : i < partsIn parts → chosenAs w 1 i ≡ true → sunkFrom e (i + 1) ≡ sunkFrom d i
+    pub sunk-more : i < n → chosen i ≡ true → sunkFrom e (i + 1) ≡ sunkFrom d i
     unfolding foldl
     sunk-more h t =
-        ap (λ (x : Float). foldl sink x (filterIn (chosenAs w 1) (partsIn parts - (i + 1)) (i + 1))) (ap rootOf samples-taken ∙ sym (deepest-root m (samplesIn sampled parts q i) d now))
-        ∙ ap (foldl sink (rootOf d)) (sym (filter-yes (chosenAs w 1) (partsIn parts) i h t))
+        ap (λ (x : Float). foldl sink x (filterIn chosen (n - (i + 1)) (i + 1))) (ap rootOf taken ∙ sym (deepest-root m (samples i) d now))
+        ∙ ap (foldl sink (rootOf d)) (sym (filter-yes chosen n i h t))
 
-  pub sunk-skip : (d : Float) (i : ℕ) → i < partsIn parts → chosenAs w 1 i ≡ false → sunkFrom d (i + 1) ≡ sunkFrom d i
-  sunk-skip d i h t = ap (foldl sink (rootOf d)) (sym (filter-no (chosenAs w 1) (partsIn parts) i h t))
+  pub sunk-skip : (d : Float) (i : ℕ) → i < n → chosen i ≡ false → sunkFrom d (i + 1) ≡ sunkFrom d i
+  sunk-skip d i h t = ap (foldl sink (rootOf d)) (sym (filter-no chosen n i h t))
 
-  pub sunk-end : (d : Float) (i : ℕ) → partsIn parts ≤ i → sunkFrom d i ≡ rootOf d
+  pub sunk-end : (d : Float) (i : ℕ) → n ≤ i → sunkFrom d i ≡ rootOf d
   unfolding foldl
-  sunk-end d i h = ap (foldl sink (rootOf d)) (filter-done (chosenAs w 1) (partsIn parts) i h)
+  sunk-end d i h = ap (foldl sink (rootOf d)) (filter-done chosen n i h)
+
+-- ---- the samples of a prepared part
+module _ (sampled : List (List Float)) (parts : List (List ℕ)) (q : Pose) (m : Material) (d : Float) {e : Float} {p : PartFacts} {place : Placement} (i : ℕ) (part : p ≡ partAt parts i)
+    (placed : place ≡ placementAt q (p .body)) (taken : e ≡ deepestSquare m d (map (worldOf place) (listIn (pointAt sampled) (p .samples) (p .sampled)))) where
+  pub samples-taken : e ≡ deepestSquare m d (samplesIn sampled parts q i)
+  unfolding samplesIn
+  samples-taken =
+      taken ∙ ap (λ (k : Placement). deepestSquare m d (map (worldOf k) (listIn (pointAt sampled) (p .samples) (p .sampled)))) placed
+      ∙ ap (λ (p : PartFacts). deepestSquare m d (map (worldOf (placementAt q (p .body))) (listIn (pointAt sampled) (p .samples) (p .sampled)))) part

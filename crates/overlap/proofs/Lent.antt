@@ -1,18 +1,16 @@
--- What the lent arrays hold: the material of the chosen parts, the mouths of the cuts and a part's samples; and a turn of the loop over the owners. Assumes nothing.
+-- What the lent arrays hold: the material of the chosen parts, the mouths of the cuts and a part's samples. Assumes nothing.
 use Prim.Native.Nat.{ℕ, _+_, _-_, _<_, _≤_}
 use native.Mathlib.Omega.{arith}
 use mathlib.Core.Path.{_≡_, sym, ap, ap₂, _∙_}
-use mathlib.Core.Bool.{Bool, true, false, not, _&&_, cond}
+use mathlib.Core.Bool.{Bool, true, not, _&&_, cond}
 use mathlib.Core.List.{List, _++_, map}
 use lib.Dec.{leb}
 use lib.Ieee.{Float}
 use lib.ListN.{length, take, drop, replicate, length-map}
 use lib.Seq.{sets, sets-eq, take-at, length-sets, length-take-le}
 use borrow.Author.Tests.{lt-ltb}
-use Rattle.laws.specs.Lists.{foldl, flat}
-use Rattle.laws.specs.Loops.{filterIn}
+use Rattle.laws.specs.Lists.{flat}
 use Rattle.laws.proofs.Choice.{and-yes, cond-yes}
-use Rattle.laws.proofs.Loops.{filter-yes, filter-no, filter-done}
 use Rattle.ieee.specs.Consts.{zeroF}
 use Rattle.geometry.specs.declared.Point.{Point}
 use Rattle.mechanism.specs.Check.{FewParts, partsOver}
@@ -20,7 +18,7 @@ use Rattle.mechanism.specs.declared.Outlines.{Outlines}
 use Rattle.mechanism.specs.declared.Parts.{Parts}
 use Rattle.bodies.specs.declared.pose.Pose.{Pose}
 use Rattle.mechanism.proofs.Checks.{parts-few}
-use Rattle.material.specs.Material.{Edge, Material, pointsOf, materialOf, depthOf, deepestOf}
+use Rattle.material.specs.Material.{Edge, Material, pointsOf, materialOf, depthOf}
 use Rattle.drawing.specs.Drawing.{rowOf, same, rowsOf, startsOf, solidsOf, cutsOf, chosenMaterial, roomFor, countsOf}
 use Rattle.drawing.specs.Samples.{mouthsOf, mouthRow, mouthsIn, partSamples, mouthRoom, sampleRoom}
 use Rattle.drawing.specs.declared.Chosen.{Chosen}
@@ -179,24 +177,3 @@ module _ (ps : Parts) (o : Outlines) (q : Pose) (mouths : List Edge) (few : FewP
       ap (λ (x : List (List Float)). pointsOf (take n x)) samples-are
       ∙ ap pointsOf (taken-front (map rowOf (partSamples ps o q mouths i)) l n (m ∙ sym sample-count) (omega (arith, f, m, long)))
       ∙ points-back (partSamples ps o q mouths i)
-
--- ---- a turn of the loop over the owners
-module _ (ps : Parts) (o : Outlines) (q : Pose) (owner : ℕ → Bool) (mouths : List Edge) (m : Material) where
-  abbrev pub sink : Float → ℕ → Float
-  sink d i = deepestOf m d (partSamples ps o q mouths i)
-
-  -- what is left to do from part i on
-  abbrev pub sunkFrom : Float → ℕ → Float
-  sunkFrom d i = foldl sink d (filterIn owner (ps .count - i) i)
-
-  pub sunk-more : (d : Float) {e : Float} {l : List Point} (i : ℕ) → i < ps .count → owner i ≡ true → e ≡ deepestOf m d l → l ≡ partSamples ps o q mouths i → sunkFrom e (i + 1) ≡ sunkFrom d i
-  unfolding foldl
-  sunk-more d i h t e f =
-      ap (λ (x : Float). foldl sink x (filterIn owner (ps .count - (i + 1)) (i + 1))) (e ∙ ap (deepestOf m d) f) ∙ ap (foldl sink d) (sym (filter-yes owner (ps .count) i h t))
-
-  pub sunk-skip : (d : Float) (i : ℕ) → i < ps .count → owner i ≡ false → sunkFrom d (i + 1) ≡ sunkFrom d i
-  sunk-skip d i h t = ap (foldl sink d) (sym (filter-no owner (ps .count) i h t))
-
-  pub sunk-end : (d : Float) (i : ℕ) → ps .count ≤ i → sunkFrom d i ≡ d
-  unfolding foldl
-  sunk-end d i h = ap (foldl sink d) (filter-done owner (ps .count) i h)

@@ -32,8 +32,9 @@ use drawing::side_chosen;
 use drawing::what_is;
 use geometry::Point;
 use ieee::num::max;
+use ieee::root::root;
 use material::Spot;
-use material::deepest;
+use material::deepest_square;
 use material::depth;
 use mechanism::FloatAnswer;
 use mechanism::Mechanism;
@@ -54,7 +55,7 @@ struct Owners {
 
 // ---- sunk
 
-// The deepest that a sample of one of the owners stands inside the material of lent polygons.
+// The deepest that a sample of one of the owners stands inside the material of lent polygons: one root is taken, of the largest square.
 fn sunk_in(
     points: &[Spot],
     starts: &[usize],
@@ -77,10 +78,10 @@ fn sunk_in(
         i += 1;
         if w.is[j] {
             let k = draw_samples(&mut samples, mouths, ps, o, q, j);
-            d = deepest(points, starts, n.solids, n.all, &samples[..k], d);
+            d = deepest_square(points, starts, n.solids, n.all, &samples[..k], d);
         }
     }
-    d
+    root(d)
 }
 
 // The same inside the material of the chosen parts.

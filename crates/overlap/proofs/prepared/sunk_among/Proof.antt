@@ -5,14 +5,16 @@ use borrow.Author.Tests.{eq-eqb, ne-eqb}
 use mathlib.Core.Path.{_≡_, sym, _∙_}
 use Rattle.material.specs.Material.{materialOf}
 use Rattle.material.proofs.Squares.{PlainNumber, zero-plain}
-use Rattle.overlap.specs.Prepared.{sunkIn}
-use Rattle.overlap.proofs.Deepest.{sunkFrom, sunk-start, sunk-plain, sunk-more, sunk-skip, sunk-end}
+use Rattle.drawing.specs.Drawing.{chosenAs}
+use Rattle.drawing.specs.Prepared.{partsIn}
+use Rattle.overlap.specs.Prepared.{samplesIn, sunkIn}
+use Rattle.overlap.proofs.Deepest.{sunkFrom, sunk-start, sunk-plain, sunk-more, sunk-skip, sunk-end, samples-taken}
 use Rattle.overlap.proofs.prepared.sunk_among.Statement.{statement}
 use Rattle.overlap.proofs.prepared.sunk_among.Tie as tie
 
 abbrev Inv-loop : tie.InvT-loop
 Inv-loop points starts n sampled parts q w range count d₀ i₀ d i =
-    PlainNumber d × (sunkFrom sampled parts q w (materialOf points starts (n .solids) (n .all)) d i ≡ sunkIn sampled parts q w (materialOf points starts (n .solids) (n .all)))
+    PlainNumber d × (sunkFrom (materialOf points starts (n .solids) (n .all)) (samplesIn sampled parts q) (chosenAs w 1) (partsIn parts) d i ≡ sunkIn sampled parts q w (materialOf points starts (n .solids) (n .all)))
 
 abbrev μ-loop : tie.MeasureT-loop
 μ-loop points starts n sampled parts q w range count d₀ i₀ d i = count - i
@@ -24,9 +26,10 @@ part-count-requires : tie.Need-part-count-requires Inv-loop μ-loop
 part-count-requires c κs = search needs
 
 loop-holds : tie.Need-loop-holds Inv-loop μ-loop
+unfolding sunkIn
 loop-holds c =
     let s = c .before .before .before .args in
-    (zero-plain, sunk-start (s .sampled .now) (s .parts .now) (s .q) (s .t7) (materialOf (s .points .now) (s .starts .now) (s .n .solids) (s .n .all)))
+    (zero-plain, sunk-start (materialOf (s .points .now) (s .starts .now) (s .n .solids) (s .n .all)) (samplesIn (s .sampled .now) (s .parts .now) (s .q)) (chosenAs (s .t7) 1) (partsIn (s .parts .now)))
 
 add-i : tie.Need-add-i Inv-loop μ-loop
 add-i c = let h = c .before .before .part-count .ensures .1 in omega arith
@@ -52,10 +55,10 @@ loop-again c =
     let s = c .before .before .before .before .before .before .before .before .before .before .args in
     let n = c .before .before .before .before .before .before .before .part-count .ensures .0 in
     let m = materialOf (s .points .now) (s .starts .now) (s .n .solids) (s .n .all) in
-    let part = c .before .before .part-at .ensures .0 in
-    let placed = c .before .placement-at .ensures in (
-      sunk-plain (s .sampled .now) (s .parts .now) (s .q) (s .t7) m (l .d) (l .i) part placed (l .inv .0) (c .sunk-part .ensures),
-      sunk-more (s .sampled .now) (s .parts .now) (s .q) (s .t7) m (l .d) (l .i) part placed (l .inv .0) (c .sunk-part .ensures) (omega (arith, n)) (eq-eqb _ 1 (c .before .before .before .if1 .taken)) ∙ l .inv .1,
+    let f = samplesIn (s .sampled .now) (s .parts .now) (s .q) in
+    let taken = samples-taken (s .sampled .now) (s .parts .now) (s .q) m (l .d) (l .i) (c .before .before .part-at .ensures .0) (c .before .placement-at .ensures) (c .sunk-part .ensures) in (
+      sunk-plain m f (chosenAs (s .t7) 1) (partsIn (s .parts .now)) (l .d) (l .i) (l .inv .0) taken,
+      sunk-more m f (chosenAs (s .t7) 1) (partsIn (s .parts .now)) (l .d) (l .i) (l .inv .0) taken (omega (arith, n)) (eq-eqb _ 1 (c .before .before .before .if1 .taken)) ∙ l .inv .1,
     )
 
 loop-less-2 : tie.Need-loop-less-2 Inv-loop μ-loop
@@ -66,7 +69,7 @@ loop-again-2 c =
     let l = c .before .before .before .loop in
     let s = c .before .before .before .before .before .before .before .args in
     let n = c .before .before .before .before .part-count .ensures .0 in
-    (l .inv .0, sunk-skip (s .sampled .now) (s .parts .now) (s .q) (s .t7) (materialOf (s .points .now) (s .starts .now) (s .n .solids) (s .n .all)) (l .d) (l .i) (omega (arith, n)) (ne-eqb _ 1 (c .if1 .left)) ∙ l .inv .1)
+    (l .inv .0, sunk-skip (materialOf (s .points .now) (s .starts .now) (s .n .solids) (s .n .all)) (samplesIn (s .sampled .now) (s .parts .now) (s .q)) (chosenAs (s .t7) 1) (partsIn (s .parts .now)) (l .d) (l .i) (omega (arith, n)) (ne-eqb _ 1 (c .if1 .left)) ∙ l .inv .1)
 
 root-requires : tie.Need-root-requires Inv-loop μ-loop
 root-requires c κs = search needs
@@ -76,7 +79,7 @@ returns c =
     let l = c .before .before .loop in
     let s = c .before .before .before .before .before .before .args in
     let n = c .before .before .before .part-count .ensures .0 in
-    c .root .ensures ∙ sym (sunk-end (s .sampled .now) (s .parts .now) (s .q) (s .t7) (materialOf (s .points .now) (s .starts .now) (s .n .solids) (s .n .all)) (l .d) (l .i) (omega (arith, n))) ∙ l .inv .1
+    c .root .ensures ∙ sym (sunk-end (materialOf (s .points .now) (s .starts .now) (s .n .solids) (s .n .all)) (samplesIn (s .sampled .now) (s .parts .now) (s .q)) (chosenAs (s .t7) 1) (partsIn (s .parts .now)) (l .d) (l .i) (omega (arith, n))) ∙ l .inv .1
 
 pub sunk-among-spec : {M : Type 1} → statement M
 sunk-among-spec =

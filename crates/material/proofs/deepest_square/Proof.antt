@@ -5,17 +5,18 @@ use lib.ListN.{length}
 use Rattle.laws.specs.Lists.{listIn}
 use Rattle.laws.proofs.Lists.{fold-on, fold-done}
 use Rattle.ieee.specs.Num.{maxOf}
-use Rattle.material.specs.Material.{materialOf, depthOf, deepestOf}
+use Rattle.material.specs.Material.{materialOf, squareDepth, deepestSquare}
+use Rattle.material.proofs.Outside.{within-square}
 use Rattle.material.proofs.Parts.{rowPoint, points-of-rows}
 use native.Mathlib.Omega.{arith}
 use borrow.Author.Needs.{needs}
-use Rattle.material.proofs.deepest.Statement.{statement}
-use Rattle.material.proofs.deepest.Tie as tie
+use Rattle.material.proofs.deepest_square.Statement.{statement}
+use Rattle.material.proofs.deepest_square.Tie as tie
 
 abbrev Inv-loop : tie.InvT-loop
 Inv-loop points starts solids all samples from range n d₀ k₀ d k =
     (k ≤ length samples)
-    × (deepestOf (materialOf points starts solids all) d (listIn (rowPoint samples) (length samples - k) k) ≡ deepestOf (materialOf points starts solids all) from (listIn (rowPoint samples) (length samples) 0))
+    × (deepestSquare (materialOf points starts solids all) d (listIn (rowPoint samples) (length samples - k) k) ≡ deepestSquare (materialOf points starts solids all) from (listIn (rowPoint samples) (length samples) 0))
 
 abbrev μ-loop : tie.MeasureT-loop
 μ-loop points starts solids all samples from range n d₀ k₀ d k = length samples - k
@@ -49,8 +50,8 @@ array-read-t22 : tie.Need-array-read-t22 Inv-loop μ-loop
 array-read-t22 c = omega arith
 
 -- src/lib.rt:270:20
-depth-in-requires : tie.Need-depth-in-requires Inv-loop μ-loop
-depth-in-requires c κs = c .before .before .before .y-range .ensures
+square-within-requires : tie.Need-square-within-requires Inv-loop μ-loop
+square-within-requires c κs = search needs
 
 -- src/lib.rt:270:9
 max-requires : tie.Need-max-requires Inv-loop μ-loop
@@ -66,8 +67,8 @@ loop-again c =
     let l = c .before .before .before .before .loop in
     let s = c .before .before .before .before .before .before .before .args in
     let m = materialOf (s .points .now) (s .starts .now) (s .solids) (s .all) in
-    let e : maxOf (l .d) (depthOf m (rowPoint (s .samples .now) (l .k))) ≡ c .max .result = sym (c .max .ensures ∙ ap (maxOf (l .d)) (c .before .depth-in .ensures)) in
-    (omega arith, fold-on (λ x p. maxOf x (depthOf m p)) (rowPoint (s .samples .now)) (length (s .samples .now)) (l .k) (omega arith) e ∙ l .inv .1)
+    let e : maxOf (l .d) (squareDepth m (rowPoint (s .samples .now) (l .k))) ≡ c .max .result = sym (c .max .ensures ∙ ap (maxOf (l .d)) (c .before .square-within .ensures ∙ within-square (s .points .now) (s .starts .now) (s .solids) (s .all) (c .before .before .before .before .before .y-range .result .lo) (c .before .before .before .before .before .y-range .result .hi) _ (c .before .before .before .before .before .y-range .ensures))) in
+    (omega arith, fold-on (λ x p. maxOf x (squareDepth m p)) (rowPoint (s .samples .now)) (length (s .samples .now)) (l .k) (omega arith) e ∙ l .inv .1)
 
 -- src/lib.rt:252:1
 returns : tie.Need-returns Inv-loop μ-loop
@@ -75,10 +76,10 @@ returns c =
     let l = c .before .loop in
     let s = c .before .before .before .before .args in
     let m = materialOf (s .points .now) (s .starts .now) (s .solids) (s .all) in
-    sym (fold-done (λ x p. maxOf x (depthOf m p)) (rowPoint (s .samples .now)) (l .d) (length (s .samples .now)) (l .k) (omega arith)) ∙ l .inv .1 ∙ ap (deepestOf m (s .from)) (sym (points-of-rows (s .samples .now)))
+    sym (fold-done (λ x p. maxOf x (squareDepth m p)) (rowPoint (s .samples .now)) (l .d) (length (s .samples .now)) (l .k) (omega arith)) ∙ l .inv .1 ∙ ap (deepestSquare m (s .from)) (sym (points-of-rows (s .samples .now)))
 
-pub deepest-spec : {M : Type 1} → statement M
-deepest-spec =
+pub deepest-square-spec : {M : Type 1} → statement M
+deepest-square-spec =
     tie.close
     (tie.spec
     Inv-loop
@@ -90,7 +91,7 @@ deepest-spec =
     add-k
     array-read-max
     array-read-t22
-    depth-in-requires
+    square-within-requires
     max-requires
     loop-less
     loop-again
