@@ -1,4 +1,5 @@
 pub mod Parts
+pub mod Serves
 pub mod Outside
 pub mod Squares
 pub mod Sets

@@ -1,9 +1,12 @@
 -- Drawn material as polygons (contact/rows.rs: `Material`, `inside`), in the Rust's order of operations. Definitions only.
 use Prim.Native.Nat.{ℕ, _+_, _-_, _%_}
+use mathlib.Core.Path.{_≡_}
+use mathlib.Core.Logic.{_⊎_}
 use mathlib.Core.Bool.{Bool, false, not, _&&_, cond, Bool·beq}
 use mathlib.Core.List.{List, _++_, map}
+use lib.Dec.{T}
 use lib.ListN.{length, getD, take, drop}
-use lib.Ieee.{Float, nan, lt}
+use lib.Ieee.{Float, nan, lt, le}
 use Rattle.laws.specs.Lists.{listIn, foldl, flat, any}
 use Rattle.ieee.specs.Consts.{zeroF, infinityF}
 use Rattle.ieee.specs.Num.{maxOf, minOf, clampOf}
@@ -64,6 +67,10 @@ squareOf p e =
 
 abbrev pub distanceOf : Point → Edge → Float
 distanceOf p e = rootOf (squareOf p e)
+
+-- r serves for x where numbers up to d make no difference: it is x, or neither is above d
+abbrev pub Serves : (d r x : Float) → Type 0
+Serves d r x = (r ≡ x) ⊎ (T (le r d) × T (le x d))
 
 -- zero outside; inside the least of the squares of the distances to all edges
 unfoldable pub squareDepth : Material → Point → Float

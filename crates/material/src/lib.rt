@@ -6,8 +6,8 @@ ghost use lib.ListN.{length, getD};
 ghost use lib.Ieee.{isNan};
 ghost use Rattle.laws.specs.Lists.{listIn, foldl, any};
 ghost use Rattle.ieee.specs.Consts.{zeroF};
-ghost use Rattle.ieee.specs.Num.{minOf};
-ghost use Rattle.material.specs.Material.{crossOf, insideOf, holdsOf, squareOf, squareDepth, depthOf, deepestSquare, pointsOf, between, polyAt, materialOf, edgesOf};
+ghost use Rattle.ieee.specs.Num.{minOf, maxOf};
+ghost use Rattle.material.specs.Material.{crossOf, insideOf, holdsOf, squareOf, Serves, squareDepth, depthOf, deepestSquare, pointsOf, between, polyAt, materialOf, edgesOf};
 ghost use Rattle.material.specs.Range.{lowOf, highOf, Covers, outsideOf};
 use geometry::Point;
 use ieee::num::choose;
@@ -141,10 +141,10 @@ fn square(a: Point, b: Point, p: Point) -> f64
     dx * dx + dy * dy
 }
 
-// The least of `from` and the squares of p's distances from the polygon's edges.
-fn least_of(poly: &[Spot], p: Point, from: f64) -> f64
+// The least of `from` and the squares of p's distances from the polygon's edges. Where numbers up to `enough` make no difference the first of them that is met will do.
+fn least_of(poly: &[Spot], p: Point, from: f64, enough: f64) -> f64
     requires { ⌜ isNan from ≡ false ⌝ }
-    ensures { λ r. ⌜ (r ≡ foldl (λ x e. minOf x (squareOf p e)) from (edgesOf (pointsOf (now (poly .entry))))) × (isNan r ≡ false) ⌝ }
+    ensures { λ r. ⌜ Serves enough r (foldl (λ x e. minOf x (squareOf p e)) from (edgesOf (pointsOf (now (poly .entry))))) × (isNan r ≡ false) ⌝ }
 {
     let n = poly.len();
     let mut best = from;
@@ -159,14 +159,25 @@ fn least_of(poly: &[Spot], p: Point, from: f64) -> f64
         let b = Point { x: v[0], y: v[1] };
         let q = square(a, b, p);
         best = choose(q < best, q, best);
+        if best <= enough {
+            return best;
+        }
     }
     best
 }
 
 // The same over the polygons from `first` up to `to`.
-fn least(points: &[Spot], starts: &[usize], first: usize, to: usize, p: Point, from: f64) -> f64
+fn least(
+    points: &[Spot],
+    starts: &[usize],
+    first: usize,
+    to: usize,
+    p: Point,
+    from: f64,
+    enough: f64,
+) -> f64
     requires { ⌜ isNan from ≡ false ⌝ }
-    ensures { λ r. ⌜ (r ≡ foldl (λ x l. foldl (λ x e. minOf x (squareOf p e)) x (edgesOf l)) from (listIn (polyAt (now (points .entry)) (now (starts .entry))) (to - first) first)) × (isNan r ≡ false) ⌝ }
+    ensures { λ r. ⌜ Serves enough r (foldl (λ x l. foldl (λ x e. minOf x (squareOf p e)) x (edgesOf l)) from (listIn (polyAt (now (points .entry)) (now (starts .entry))) (to - first) first)) × (isNan r ≡ false) ⌝ }
 {
     let mut best = from;
     let mut i = first;
@@ -174,18 +185,25 @@ fn least(points: &[Spot], starts: &[usize], first: usize, to: usize, p: Point, f
         let a = start_at(starts, i);
         i += 1;
         let e = start_at(starts, i);
-        best = least_of(part(points, a, e), p, best);
+        best = least_of(part(points, a, e), p, best, enough);
     }
     best
 }
 
-// The least square of p's distances from the edges of the parts and the cuts, where the material holds p; zero outside.
-fn square_depth(points: &[Spot], starts: &[usize], solids: usize, all: usize, p: Point) -> f64
-    ensures { λ r. ⌜ r ≡ squareDepth (materialOf (now (points .entry)) (now (starts .entry)) solids all) p ⌝ }
+// The least square of p's distances from the edges of the parts and the cuts, where the material holds p; zero outside. Numbers up to `enough` make no difference.
+fn square_depth(
+    points: &[Spot],
+    starts: &[usize],
+    solids: usize,
+    all: usize,
+    p: Point,
+    enough: f64,
+) -> f64
+    ensures { λ r. ⌜ Serves enough r (squareDepth (materialOf (now (points .entry)) (now (starts .entry)) solids all) p) ⌝ }
 {
     if holds(points, starts, solids, all, p) {
-        let s = least(points, starts, 0, solids, p, infinity());
-        least(points, starts, solids, all, p, s)
+        let s = least(points, starts, 0, solids, p, infinity(), enough);
+        least(points, starts, solids, all, p, s, enough)
     } else {
         0.0
     }
@@ -195,7 +213,7 @@ fn square_depth(points: &[Spot], starts: &[usize], solids: usize, all: usize, p:
 pub fn depth(points: &[Spot], starts: &[usize], solids: usize, all: usize, p: Point) -> f64
     ensures { λ r. ⌜ r ≡ depthOf (materialOf (now (points .entry)) (now (starts .entry)) solids all) p ⌝ }
 {
-    root(square_depth(points, starts, solids, all, p))
+    root(square_depth(points, starts, solids, all, p, 0.0 / 0.0))
 }
 
 // A range of ordinates.
@@ -239,21 +257,22 @@ fn is_outside(lo: f64, hi: f64, y: f64) -> bool
     (y < lo) | (hi <= y)
 }
 
-// The square of a depth, with the points outside a range settled at once.
-pub fn square_within(
+// The largest of d and the square of p's depth, with the points outside a range settled at once.
+pub fn deeper_square(
     points: &[Spot],
     starts: &[usize],
     solids: usize,
     all: usize,
     range: Range,
     p: Point,
+    d: f64,
 ) -> f64
-    ensures { λ r. ⌜ r ≡ cond (outsideOf (range .lo) (range .hi) (p .y)) zeroF (squareDepth (materialOf (now (points .entry)) (now (starts .entry)) solids all) p) ⌝ }
+    ensures { λ r. ⌜ r ≡ maxOf d (cond (outsideOf (range .lo) (range .hi) (p .y)) zeroF (squareDepth (materialOf (now (points .entry)) (now (starts .entry)) solids all) p)) ⌝ }
 {
     if is_outside(range.lo, range.hi, p.y) {
-        0.0
+        max(d, 0.0)
     } else {
-        square_depth(points, starts, solids, all, p)
+        max(d, square_depth(points, starts, solids, all, p, d))
     }
 }
 
@@ -276,7 +295,7 @@ pub fn deepest_square(
         let v = samples[k];
         k += 1;
         let p = Point { x: v[0], y: v[1] };
-        d = max(d, square_within(points, starts, solids, all, range, p));
+        d = deeper_square(points, starts, solids, all, range, p, d);
     }
     d
 }

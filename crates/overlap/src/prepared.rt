@@ -26,8 +26,8 @@ use ieee::num::max;
 use ieee::root::root;
 use material::Range;
 use material::Spot;
+use material::deeper_square;
 use material::depth;
-use material::square_within;
 use material::y_range;
 use strips::ChoiceRow;
 use strips::PartFacts;
@@ -63,7 +63,7 @@ fn sunk_part(
     while i < count {
         let p = place.world(point_at(sampled, first + i));
         i += 1;
-        d = max(d, square_within(points, starts, n.solids, n.all, range, p));
+        d = deeper_square(points, starts, n.solids, n.all, range, p, d);
     }
     d
 }

@@ -42,20 +42,16 @@ add-k : tie.Need-add-k Inv-loop μ-loop
 add-k c = omega arith
 
 -- src/lib.rt:269:28
-array-read-max : tie.Need-array-read-max Inv-loop μ-loop
-array-read-max c = omega arith
+array-read-t19 : tie.Need-array-read-t19 Inv-loop μ-loop
+array-read-t19 c = omega arith
 
 -- src/lib.rt:269:37
 array-read-t22 : tie.Need-array-read-t22 Inv-loop μ-loop
 array-read-t22 c = omega arith
 
 -- src/lib.rt:270:20
-square-within-requires : tie.Need-square-within-requires Inv-loop μ-loop
-square-within-requires c κs = search needs
-
--- src/lib.rt:270:9
-max-requires : tie.Need-max-requires Inv-loop μ-loop
-max-requires c κs = search needs
+deeper-square-requires : tie.Need-deeper-square-requires Inv-loop μ-loop
+deeper-square-requires c κs = search needs
 
 -- src/lib.rt:266:5
 loop-less : tie.Need-loop-less Inv-loop μ-loop
@@ -64,10 +60,12 @@ loop-less c = omega arith
 -- src/lib.rt:266:5
 loop-again : tie.Need-loop-again Inv-loop μ-loop
 loop-again c =
-    let l = c .before .before .before .before .loop in
-    let s = c .before .before .before .before .before .before .before .args in
+    let l = c .before .before .before .loop in
+    let s = c .before .before .before .before .before .before .args in
     let m = materialOf (s .points .now) (s .starts .now) (s .solids) (s .all) in
-    let e : maxOf (l .d) (squareDepth m (rowPoint (s .samples .now) (l .k))) ≡ c .max .result = sym (c .max .ensures ∙ ap (maxOf (l .d)) (c .before .square-within .ensures ∙ within-square (s .points .now) (s .starts .now) (s .solids) (s .all) (c .before .before .before .before .before .y-range .result .lo) (c .before .before .before .before .before .y-range .result .hi) _ (c .before .before .before .before .before .y-range .ensures))) in
+    let y = c .before .before .before .before .y-range in
+    let e : maxOf (l .d) (squareDepth m (rowPoint (s .samples .now) (l .k))) ≡ c .deeper-square .result =
+    sym (c .deeper-square .ensures ∙ ap (maxOf (l .d)) (within-square (s .points .now) (s .starts .now) (s .solids) (s .all) (y .result .lo) (y .result .hi) _ (y .ensures))) in
     (omega arith, fold-on (λ x p. maxOf x (squareDepth m p)) (rowPoint (s .samples .now)) (length (s .samples .now)) (l .k) (omega arith) e ∙ l .inv .1)
 
 -- src/lib.rt:252:1
@@ -89,10 +87,9 @@ deepest-square-spec =
     mul-v
     shared-slice-copy-out-v
     add-k
-    array-read-max
+    array-read-t19
     array-read-t22
-    square-within-requires
-    max-requires
+    deeper-square-requires
     loop-less
     loop-again
     returns)

@@ -1,6 +1,9 @@
-use mathlib.Core.Path.{ap, _∙_}
+use mathlib.Core.Path.{ap, subst, _∙_}
+use lib.Ieee.{Float}
 use Rattle.ieee.specs.Root.{rootOf}
-use Rattle.material.specs.Material.{materialOf}
+use Rattle.material.specs.Material.{materialOf, squareDepth, Serves}
+use Rattle.material.proofs.Outside.{nothing}
+use Rattle.material.proofs.Serves.{serves-nan}
 use Rattle.material.proofs.Squares.{square-root}
 use borrow.Author.Needs.{needs}
 use Rattle.material.proofs.depth.Statement.{statement}
@@ -15,7 +18,7 @@ root-requires c κs = search needs
 returns : tie.Need-returns
 returns c =
     let s = c .before .before .before .args in
-    c .root .ensures ∙ ap rootOf (c .before .square-depth .ensures) ∙ square-root (materialOf (s .points .now) (s .starts .now) (s .solids) (s .all)) (s .p)
+    c .root .ensures ∙ ap rootOf (serves-nan _ _ (subst (λ (d : Float). Serves d (c .before .square-depth .result) (squareDepth (materialOf (s .points .now) (s .starts .now) (s .solids) (s .all)) (s .p))) nothing (c .before .square-depth .ensures))) ∙ square-root (materialOf (s .points .now) (s .starts .now) (s .solids) (s .all)) (s .p)
 
 pub depth-spec : {M : Type 1} → statement M
 depth-spec = tie.close (tie.spec square-depth-requires root-requires returns)

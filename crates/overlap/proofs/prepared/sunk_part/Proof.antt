@@ -38,29 +38,24 @@ world-requires c κs = search needs
 add-i : tie.Need-add-i Inv-loop μ-loop
 add-i c = omega arith
 
-square-within-requires : tie.Need-square-within-requires Inv-loop μ-loop
-square-within-requires c κs = search needs
-
-max-requires : tie.Need-max-requires Inv-loop μ-loop
-max-requires c κs = search needs
+deeper-square-requires : tie.Need-deeper-square-requires Inv-loop μ-loop
+deeper-square-requires c κs = search needs
 
 loop-less : tie.Need-loop-less Inv-loop μ-loop
 loop-less c = omega arith
 
 loop-again : tie.Need-loop-again Inv-loop μ-loop
 loop-again c =
-    let l = c .before .before .before .before .before .loop in
-    let a = c .before .before .before .before .before .before .before in
+    let l = c .before .before .before .before .loop in
+    let a = c .before .before .before .before .before .before in
     let s = a .args in
     let m = materialOf (s .points .now) (s .starts .now) (s .n .solids) (s .n .all) in
-    let p : c .before .before .world .result ≡ worldOf (s .place) (pointAt (s .sampled .now) (s .first + l .i)) =
-    c .before .before .world .ensures ∙ ap (worldOf (s .place)) (c .before .before .before .point-at .ensures) in
-    let e : maxOf (l .d) (squareDepth m (worldOf (s .place) (pointAt (s .sampled .now) (s .first + l .i)))) ≡ c .max .result =
-    sym (c .max .ensures
-    ∙ ap (maxOf (l .d)) (c .before .square-within .ensures
-    ∙ within-square (s .points .now) (s .starts .now) (s .n .solids) (s .n .all) (s .range .lo) (s .range .hi) (c .before .before .world .result) (a .pre .2)
-    ∙ ap (squareDepth m) p)) in
-    squares-more m (worldOf (s .place)) (pointAt (s .sampled .now)) (s .first) (s .count) (l .d) (c .max .result) (l .i) (omega arith) e ∙ l .inv
+    let w = c .before .world .result in
+    let p : w ≡ worldOf (s .place) (pointAt (s .sampled .now) (s .first + l .i)) = c .before .world .ensures ∙ ap (worldOf (s .place)) (c .before .before .point-at .ensures) in
+    let e : maxOf (l .d) (squareDepth m (worldOf (s .place) (pointAt (s .sampled .now) (s .first + l .i)))) ≡ c .deeper-square .result =
+    sym (c .deeper-square .ensures
+    ∙ ap (maxOf (l .d)) (within-square (s .points .now) (s .starts .now) (s .n .solids) (s .n .all) (s .range .lo) (s .range .hi) w (a .pre .2) ∙ ap (squareDepth m) p)) in
+    squares-more m (worldOf (s .place)) (pointAt (s .sampled .now)) (s .first) (s .count) (l .d) (c .deeper-square .result) (l .i) (omega arith) e ∙ l .inv
 
 returns : tie.Need-returns Inv-loop μ-loop
 returns c =
@@ -80,8 +75,7 @@ sunk-part-spec =
     point-at-requires
     world-requires
     add-i
-    square-within-requires
-    max-requires
+    deeper-square-requires
     loop-less
     loop-again
     returns)
