@@ -14,6 +14,10 @@ extern "C" {
     #[rustfmt::skip]
     fn sewqirun_gap(places: *const Place, places_count: usize, values: *const Value, values_count: usize, n: usize, pair: usize, x: f64) -> f64;
     #[rustfmt::skip]
+    fn sewqirun_governing_record(places: *const Place, places_count: usize, values: *const Value, values_count: usize, pair: usize) -> usize;
+    #[rustfmt::skip]
+    fn sewqirun_gap_record(places: *const Place, places_count: usize, values: *const Value, values_count: usize, pair: usize, x: f64) -> f64;
+    #[rustfmt::skip]
     fn sewqirun_row_entries(out: *mut [f64; 16], entries: *const f64, count: usize, coords: usize, n: usize, i: usize) -> usize;
     fn sewqirun_surfaces(out: *mut [f64; 4], place: *const Place, value: *const Value);
 }
@@ -46,18 +50,26 @@ fn all_bits(all: &[f64]) -> Vec<u64> {
     all.iter().map(|&x| bits(x)).collect()
 }
 
-// The governing row and its gap of every pair that a text can have, of the number behind and of the last number; the first n rows are looked at, where more are lent.
+// How many records the library holds.
+const HELD: usize = 64;
+
+// The governing row and its gap of every pair that a text can have, of the number behind and of the last number: of the first n rows, where more are lent, and of the first of them as records.
 fn governing_alike(rows: &[Row], n: usize) -> bool {
     let places: Vec<Place> = rows.iter().map(place).collect();
     let values: Vec<Value> = rows.iter().map(value).collect();
     let (p, v, k) = (places.as_ptr(), values.as_ptr(), rows.len());
-    let rows = Rows::of(rows[..n.min(k)].to_vec());
+    let first = Rows::of(rows[..n.min(k)].to_vec());
+    let held = Rows::of(rows[..k.min(HELD)].to_vec());
     (0..=17).chain([u16::MAX]).all(|pair| {
         let number = usize::from(pair);
-        let found = unsafe { sewqirun_governing(p, k, v, k, n, number) };
-        let gaps = [0.5, -0.25].map(|none| unsafe { (none, sewqirun_gap(p, k, v, k, n, number, none)) });
-        found == rows.governing(pair).unwrap_or(n)
-            && gaps.iter().all(|&(none, gap)| bits(gap) == bits(rows.gap(pair).unwrap_or(none)))
+        let found = unsafe { (sewqirun_governing(p, k, v, k, n, number), sewqirun_governing_record(p, k, v, k, number)) };
+        let gaps = [0.5, -0.25].map(|none| unsafe {
+            (none, sewqirun_gap(p, k, v, k, n, number, none), sewqirun_gap_record(p, k, v, k, number, none))
+        });
+        found == (first.governing(pair).unwrap_or(n), held.governing(pair).unwrap_or(HELD))
+            && gaps.iter().all(|&(none, gap, record)| {
+                (bits(gap), bits(record)) == (bits(first.gap(pair).unwrap_or(none)), bits(held.gap(pair).unwrap_or(none)))
+            })
     })
 }
 

@@ -15,7 +15,8 @@ use Rattle.governing.specs.declared.MaybeRow.{MaybeRow}
 use Rattle.governing.specs.declared.MaybeRow.the-variants.{SomeRow, NoRow}
 use Rattle.governing.specs.Governing.{leastOf, governingOf, lesser, recordsIn, numbered, rowThere}
 
-lesser-le : (a b : ℕ) → (lesser a b ≤ a) × (lesser a b ≤ b)
+-- the lesser of two numbers is no more than either
+pub lesser-le : (a b : ℕ) → (lesser a b ≤ a) × (lesser a b ≤ b)
 lesser-le a b = go (ltb a b) refl
   where
     go : (t : Bool) → ltb a b ≡ t → (cond t a b ≤ a) × (cond t a b ≤ b)
@@ -95,7 +96,7 @@ module _ (n a b m k : ℕ) (e : m ≡ lesser a b) (f : k ≡ lesser n m) where
       let y = lesser-le n m in
       (omega (arith, x .0, y .1), omega (arith, x .1, y .1))
 
-  records-are : k ≡ recordsIn n a b
+  pub records-are : k ≡ recordsIn n a b
   records-are = f ∙ ap (lesser n) e
 
   module _ (pair : ℕ → ℕ) (gap : ℕ → Float) (p i : ℕ) (g : numbered k i ≡ governingOf pair gap k p) where

@@ -6,11 +6,12 @@ use mathlib.Core.Bool.{Bool, true, not, _&&_, cond}
 use mathlib.Core.List.{List, _++_, map}
 use lib.Dec.{leb}
 use lib.Ieee.{Float}
-use lib.ListN.{length, take, drop, replicate, length-map}
-use lib.Seq.{sets, sets-eq, take-at, length-sets, length-take-le}
+use lib.ListN.{length, take, replicate, length-map}
+use lib.Seq.{sets, length-sets, length-take-le}
 use borrow.Author.Tests.{lt-ltb}
 use Rattle.laws.specs.Lists.{flat}
 use Rattle.laws.proofs.Choice.{and-yes, cond-yes}
+use Rattle.laws.proofs.Writing.{sets-taken}
 use Rattle.ieee.specs.Consts.{zeroF}
 use Rattle.geometry.specs.declared.Point.{Point}
 use Rattle.mechanism.specs.Check.{FewParts, partsOver}
@@ -35,12 +36,6 @@ quads = replicate 768 (replicate 4 zeroF)
 
 abbrev pub zeros : List ℕ
 zeros = replicate 33 0
-
--- what is written from the front of an array that has room, taken out again
-taken-front : {A : Type 0} (vs l : List A) (n : ℕ) → length vs ≡ n → length vs ≤ length l → take n (sets l 0 vs) ≡ vs
-taken-front {A} vs l n e h =
-    let k : 0 + length vs ≤ length l = omega arith in
-    ap (take n) (sets-eq vs l 0 k) ∙ take-at vs (drop (0 + length vs) l) n e
 
 module _ (ps : Parts) (few : FewParts ps) where
   none-over : not (partsOver ps) ≡ true
@@ -142,7 +137,7 @@ module _ (ps : Parts) (o : Outlines) (few : FewParts ps) (l : List (List Float))
       let f = mouths-few ps o few in
       let m = length-map (mouthsOf ps o) mouthRow in
       ap (λ (x : List (List Float)). mouthsIn (take n x)) mouths-are
-      ∙ ap mouthsIn (taken-front (map mouthRow (mouthsOf ps o)) l n (m ∙ sym mouth-count) (omega (arith, f, m, long)))
+      ∙ ap mouthsIn (sets-taken (map mouthRow (mouthsOf ps o)) l n (m ∙ sym mouth-count) (omega (arith, f, m, long)))
       ∙ mouths-back (mouthsOf ps o)
 
   pub sunk-with : (q : Pose) (owner : ℕ → Bool) (m : Material) {d : Float} → d ≡ sunkBy ps o q owner (mouthsIn (take n l′)) m → d ≡ sunkOf ps o q owner m
@@ -175,5 +170,5 @@ module _ (ps : Parts) (o : Outlines) (q : Pose) (mouths : List Edge) (few : FewP
       let f = samples-few ps o q mouths i in
       let m = length-map (partSamples ps o q mouths i) rowOf in
       ap (λ (x : List (List Float)). pointsOf (take n x)) samples-are
-      ∙ ap pointsOf (taken-front (map rowOf (partSamples ps o q mouths i)) l n (m ∙ sym sample-count) (omega (arith, f, m, long)))
+      ∙ ap pointsOf (sets-taken (map rowOf (partSamples ps o q mouths i)) l n (m ∙ sym sample-count) (omega (arith, f, m, long)))
       ∙ points-back (partSamples ps o q mouths i)

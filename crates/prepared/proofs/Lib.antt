@@ -1,3 +1,4 @@
 pub mod Sunk
 pub mod Pairs
 pub mod Whole
+pub mod Prepare

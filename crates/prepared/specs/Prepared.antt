@@ -3,7 +3,10 @@ use Prim.Native.Nat.{ℕ}
 use mathlib.Core.Path.{_≡_}
 use mathlib.Core.List.{List}
 use lib.Ieee.{Float}
+use lib.ListN.{length, take}
 use Rattle.bodies.specs.Check.{andThen}
+use Rattle.bodies.specs.declared.Checked.the-variants.{Accepted}
+use Rattle.mechanism.specs.Check.{checkOf}
 use Rattle.bodies.specs.Pose.{bodiesPosed}
 use Rattle.mechanism.specs.Pose.{poseChecked}
 use Rattle.mechanism.specs.declared.Mechanism.{Mechanism}
@@ -13,7 +16,7 @@ use Rattle.shown_rows.specs.Rows.{rowsOf, gradsOf, slipsOf, rowsChecked}
 use Rattle.prepared_rows.specs.Prepared.{allRows, allGrads, allSlips, boundsIn, preparedChecked}
 use Rattle.reading.specs.Reading.{pairReadings, readingOf}
 use Rattle.reading.specs.Prepared.{poseOf, pairReadingsIn, readIn, readChecked}
-use Rattle.tables.specs.Tables.{Agrees, faceTable, faceNameTable, discTable, discNameTable, sideTable, centerTable, choiceTable, drawnTable, sampledTable, partTable}
+use Rattle.tables.specs.Tables.{Agrees, writtenIf, faceTable, faceNameTable, discTable, discNameTable, sideTable, centerTable, choiceTable, drawnTable, sampledTable, partTable}
 
 -- the tables of m, that of its parts apart, stand in the front of the arrays
 pub record Holds (m : Mechanism) (faceRows : List (List Float)) (faceNames : List (List ℕ)) (discRows : List (List Float)) (discNames sideRows : List (List ℕ)) (centerRows : List (List Float)) (choiceRows : List (List ℕ)) (drawnRows sampledRows : List (List Float)) : Type 0 where
@@ -40,3 +43,25 @@ pub record ReadsAs (m : Mechanism) (faceRows : List (List Float)) (faceNames : L
       ≡ readingOf m q margin w x y z
   pub posed : (entries : List (List Float)) → bodiesPosed (m .bodies) entries ≡ poseChecked m entries
   pub read-checks : (entries : List (List Float)) (w x y z : ℕ) → readChecked (m .bodies) (m .pairs .count) sideRows entries w x y z ≡ andThen (poseChecked m entries) (rowsChecked m (poseOf (m .bodies) entries) w x y z)
+
+-- the arrays that `prepare` is lent, by their lengths
+pub record Lent (faceRows : List (List Float)) (faceNames : List (List ℕ)) (discRows : List (List Float)) (discNames sideRows : List (List ℕ)) (centerRows : List (List Float)) (choiceRows : List (List ℕ)) (drawnRows sampledRows : List (List Float)) (partRows : List (List ℕ)) : Type 0 where
+  pub faces : length faceRows ≡ 384
+  pub fnames : length faceNames ≡ 384
+  pub discs : length discRows ≡ 896
+  pub dnames : length discNames ≡ 896
+  pub sides : length sideRows ≡ 32
+  pub centers : length centerRows ≡ 32
+  pub choices : length choiceRows ≡ 64
+  pub drawn : length drawnRows ≡ 6144
+  pub sampled : length sampledRows ≡ 13056
+  pub parts : length partRows ≡ 32
+
+-- after `prepare` of an accepted description, whatever stood in the arrays before: what is read over them is what the description gives, and its parts are the first rows of theirs
+abbrev pub PrepareReads : Mechanism → Type 0
+PrepareReads m =
+    (faceRows : List (List Float)) (faceNames : List (List ℕ)) (discRows : List (List Float)) (discNames sideRows : List (List ℕ)) (centerRows : List (List Float)) (choiceRows : List (List ℕ)) (drawnRows sampledRows : List (List Float)) (partRows : List (List ℕ))
+    → Lent faceRows faceNames discRows discNames sideRows centerRows choiceRows drawnRows sampledRows partRows
+    → checkOf m ≡ Accepted
+    → ReadsAs m (writtenIf (checkOf m) faceRows (faceTable m)) (writtenIf (checkOf m) faceNames (faceNameTable m)) (writtenIf (checkOf m) discRows (discTable m)) (writtenIf (checkOf m) discNames (discNameTable m)) (writtenIf (checkOf m) sideRows (sideTable m)) (writtenIf (checkOf m) centerRows (centerTable m)) (writtenIf (checkOf m) choiceRows (choiceTable m)) (writtenIf (checkOf m) drawnRows (drawnTable (m .parts) (m .outlines))) (writtenIf (checkOf m) sampledRows (sampledTable (m .parts) (m .outlines)))
+    × (take (m .parts .count) (writtenIf (checkOf m) partRows (partTable (m .parts) (m .outlines))) ≡ partTable (m .parts) (m .outlines))

@@ -1,8 +1,10 @@
 // Functions over rows for a caller in Rust or C, on plain numbers: for the comparison in oracle/. An exported function takes no enum, so that a row goes as its seven whole numbers and its five floats.
 ghost use mathlib.Core.Path.{_≡_};
-ghost use lib.ListN.{length};
+ghost use Prim.Native.Nat.{_≤_};
+ghost use lib.ListN.{length, take};
 ghost use Rattle.mechanism.specs.Rows.{pairIn, gapIn, rowIn};
-ghost use Rattle.governing.specs.Governing.{governingOf, gapOf, recordsIn, rowEntries};
+ghost use Rattle.governing.specs.Governing.{governingOf, gapOf, lesser, recordsIn, rowEntries};
+ghost use Rattle.row_records.specs.Records.{governingRecord, gapRecord, recordsOf};
 ghost use Rattle.row_exports.specs.Numbers.{numberOr, gapOr, refusedBy, entriesOver, surfacesOf};
 use bodies::Checked;
 use governing::EntriesAnswer;
@@ -62,6 +64,83 @@ pub extern "C" fn sewqirun_gap(
 {
     gap_or(gap_in(places, values, n, pair), x)
 }
+
+// ---- the same over records, in an array of the callee's own
+
+// Records by value: the first n of them, n being said beside it.
+pub struct Records {
+    row: [Row; 64],
+}
+
+fn fewer(a: usize, b: usize) -> usize
+    ensures { λ r. ⌜ r ≡ lesser a b ⌝ }
+{
+    if a < b { a } else { b }
+}
+
+// The first n rows of numbers as records.
+fn records_by_value(places: &[Place], values: &[Value], n: usize) -> Records
+    requires { ⌜ (n ≤ length (now places)) × (n ≤ length (now values)) × (n ≤ 64) ⌝ }
+    ensures { λ r. ⌜ take n (r .row) ≡ recordsOf (now (places .entry)) (now (values .entry)) n ⌝ }
+{
+    let none = row_from([0; 7], [0.0; 5]);
+    let mut row = [none; 64];
+    let mut i: usize = 0;
+    while i < n {
+        row[i] = row_from(places[i], values[i]);
+        i += 1;
+    }
+    Records { row }
+}
+
+// The governing one of the first n.
+fn governing_of(h: Records, n: usize, pair: usize) -> MaybeRow
+    requires { ⌜ n ≤ 64 ⌝ }
+    ensures { λ r. ⌜ r ≡ governingRecord (take n (h .row)) pair ⌝ }
+{
+    row_records::governing(&h.row[..n], pair)
+}
+
+// Its gap.
+fn gap_of(h: Records, n: usize, pair: usize) -> MaybeGap
+    requires { ⌜ n ≤ 64 ⌝ }
+    ensures { λ r. ⌜ r ≡ gapRecord (take n (h .row)) pair ⌝ }
+{
+    row_records::gap(&h.row[..n], pair)
+}
+
+// The number of the governing record of a pair among the first 64, 64 where there is none.
+#[no_mangle]
+pub extern "C" fn sewqirun_governing_record(
+    places: &[Place],
+    values: &[Value],
+    pair: usize,
+) -> usize
+    ensures { λ r. ⌜ r ≡ numberOr (governingRecord (recordsOf (now (places .entry)) (now (values .entry)) (recordsIn 64 (length (now (places .entry))) (length (now (values .entry))))) pair) 64 ⌝ }
+{
+    let n = fewer(64, fewer(places.len(), values.len()));
+    let h = records_by_value(places, values, n);
+    let found = governing_of(h, n, pair);
+    number_or(found, 64)
+}
+
+// Its gap, x where there is none.
+#[no_mangle]
+pub extern "C" fn sewqirun_gap_record(
+    places: &[Place],
+    values: &[Value],
+    pair: usize,
+    x: f64,
+) -> f64
+    ensures { λ r. ⌜ r ≡ gapOr (gapRecord (recordsOf (now (places .entry)) (now (values .entry)) (recordsIn 64 (length (now (places .entry))) (length (now (values .entry))))) pair) x ⌝ }
+{
+    let n = fewer(64, fewer(places.len(), values.len()));
+    let h = records_by_value(places, values, n);
+    let found = gap_of(h, n, pair);
+    gap_or(found, x)
+}
+
+// ---- a row's columns and its surfaces
 
 fn refused_by(c: Checked) -> usize
     ensures { λ r. ⌜ r ≡ refusedBy c ⌝ }

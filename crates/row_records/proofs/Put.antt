@@ -3,15 +3,12 @@ use Prim.Native.Nat.{ℕ, zero, suc, _+_, _≤_}
 use native.Mathlib.Numerals.{add-one}
 use native.Mathlib.Omega.{arith}
 use mathlib.Core.Path.{_≡_, refl, sym, ap, ap₂, _∙_}
-use mathlib.Core.Bool.{Bool, true, false, cond}
 use mathlib.Core.List.{List}
-use lib.Dec.{ltb}
 use lib.ListN.{set}
 use lib.Seq.{sets}
-use borrow.Author.Tests.{ltb-true, ltb-false}
 use Rattle.laws.specs.Lists.{listIn}
 use Rattle.governing.specs.Governing.{lesser}
-use Rattle.governing.proofs.Laws.{records-few}
+use Rattle.governing.proofs.Laws.{lesser-le, records-few, records-are}
 use Rattle.row_records.specs.Records.{recordsFit}
 
 module _ {A : Type 0} (f : ℕ → A) where
@@ -30,17 +27,10 @@ module _ {A : Type 0} (f : ℕ → A) where
   put-more l i =
       ap₂ (λ (m : ℕ) (h : ℕ). set (sets l 0 (listIn f i 0)) m (f h)) (omega arith) (omega arith) ∙ sets-last l 0 i 0 ∙ ap (λ (k : ℕ). sets l 0 (listIn f k 0)) (sym (add-one i))
 
-lesser-le : (a b : ℕ) → (lesser a b ≤ a) × (lesser a b ≤ b)
-lesser-le a b = go (ltb a b) refl
-  where
-    go : (t : Bool) → ltb a b ≡ t → (cond t a b ≤ a) × (cond t a b ≤ b)
-    go true e = let h = ltb-true a b e in (omega arith, omega arith)
-    go false e = let h = ltb-false a b e in (omega arith, omega arith)
-
 -- ---- n records are asked for, a places and b values are there, and c have room: i, j and k are what the code found
 module _ (n a b c i j k : ℕ) (e : i ≡ lesser a b) (f : j ≡ lesser n i) (g : k ≡ lesser j c) where
   pub fit-is : k ≡ recordsFit n a b c
-  fit-is = g ∙ ap (λ (m : ℕ). lesser m c) (f ∙ ap (lesser n) e)
+  fit-is = g ∙ ap (λ (m : ℕ). lesser m c) (records-are n a b i j e f)
 
   pub fit-few : (k ≤ a) × (k ≤ b) × (k ≤ c)
   fit-few =

@@ -3,13 +3,11 @@ use Prim.Native.Nat.{ℕ, zero, suc, _+_, _*_, _<_, _≤_}
 use native.Mathlib.Omega.{arith}
 use native.Mathlib.Nat.{add-zero, add-suc, suc-add, mul-zero, mul-suc, mul-add, add-mul, mul-le-mul-left}
 use mathlib.Core.Path.{_≡_, refl, sym, ap, ap₂, _∙_}
-use mathlib.Core.Bool.{Bool, true, false, cond}
+use mathlib.Core.Bool.{Bool, false}
 use mathlib.Core.List.{List, [], _∷_, _++_, map}
-use lib.Dec.{ltb}
 use lib.Ieee.{Float}
 use lib.ListN.{length, getD, length-append, length-map, List·getD-append, replicate}
 use lib.Seq.{take-length, getD-append-add}
-use borrow.Author.Tests.{ltb-false}
 use Rattle.laws.specs.Fill.{filled}
 use Rattle.laws.specs.Lists.{listIn, flat}
 use Rattle.laws.proofs.Fill.{length-filled, getD-filled}
@@ -40,6 +38,7 @@ use Rattle.strips.specs.declared.SideFacts.{SideFacts}
 use Rattle.strips.proofs.Rows.{piece-back}
 use Rattle.tables.specs.Tables.{upTo, Agrees, faceRows, faceNames, discRows, discNames, geometryOf, lessCuts, sideRow, sampledRow, pairSides, pairCenters, pairChoices, faceTable, faceNameTable, discTable, discNameTable, sideTable, centerTable, choiceTable}
 use Rattle.tables.proofs.Known.{faces-a, faces-b, discs-a, discs-b, rows-both}
+use Rattle.tables.proofs.Points.{at-most-is}
 
 -- ---- a row of a table
 map-get : {A B : Type 0} (g : A → B) (l : List A) (i : ℕ) (d : A) (e : B) → i < length l → getD (map g l) i e ≡ g (getD l i d)
@@ -105,14 +104,6 @@ pub row-there : {A : Type 0} (l : List (List A)) (i : ℕ) (d r : List A) → 0 
 row-there [] i d r h e = let z = ap length e in absurd (omega arith)
 row-there (x ∷ l) zero d r h e = e
 row-there (x ∷ l) (suc i) d r h e = row-there l i d r h e
-
--- ---- numbers that are small enough
-least-by : (n m : ℕ) (t : Bool) → ltb n m ≡ t → n ≤ m → cond t n m ≡ n
-least-by n m true e h = refl
-least-by n m false e h = let g = ltb-false n m e in omega arith
-
-pub at-most-is : (n m : ℕ) → n ≤ m → atMost n m ≡ n
-at-most-is n m h = least-by n m (ltb n m) refl h
 
 pub row-a-is : (i : ℕ) → i ≤ 16 → rowA i ≡ 2 * i
 row-a-is i h = ap (λ (k : ℕ). 2 * k) (at-most-is i 16 h)
