@@ -1,5 +1,5 @@
-// For timing: reads a number of turns in six decimal digits and a newline, then a sheet text behind its length in the same form, asks for `pair_overlap` so many
-// times, pair after pair, and prints the bits of the sum of the answers.
+// For bench/run: reads a sheet text behind its length in six decimal digits and a newline, then requests of two numbers in the same form, of which the second says how often,
+// until it is zero: asks for `pair_overlap` of the description by value, pair after pair at one pose, and prints the bits of the sum of the answers of each request.
 ghost use Prim.Native.Nat.{_≤_};
 use bodies::Checked;
 use bodies::Problem;
@@ -75,24 +75,46 @@ fn pose_of(m: Mechanism, q: &[[f64; 3]], n: usize) -> Posed {
     m.pose(q)
 }
 
-fn sum_posed(m: Mechanism, p: Posed, turns: usize) -> f64 {
-    let c = p.checked;
-    let q = p.pose;
-    match c {
-        Checked::Accepted => sum_of(m, q, turns),
-        Checked::Refused(_) => 0.0,
+// Six digits and a newline; 0 where there are none.
+fn read_number() -> usize {
+    let mut head = [0u8; 7];
+    io::read_full(0, &mut head);
+    length_of(head)
+}
+
+// Answers requests, at most a thousand of them, until one asks for nothing.
+fn serve(m: Mechanism, q: Pose) {
+    let mut k: usize = 0;
+    while k < 1000 {
+        read_number();
+        let turns = read_number();
+        k += 1;
+        if turns == 0 {
+            return;
+        }
+        io::print_hex(1, ieee::bits::pattern(sum_of(m, q, turns)), 16);
+        io::write_all(1, b"\n");
     }
 }
 
-fn sum_of_text(text: &[u8], turns: usize) -> f64 {
+fn serve_posed(m: Mechanism, p: Posed) {
+    let c = p.checked;
+    let q = p.pose;
+    match c {
+        Checked::Accepted => serve(m, q),
+        Checked::Refused(_) => {}
+    }
+}
+
+fn answer_text(text: &[u8]) {
     let s = sheet::read(text);
     let m = s.mechanism;
     let e = s.entries;
     let n = e.count;
     let c = s.checked;
     match c {
-        Checked::Accepted => sum_posed(m, pose_of(m, &lent(e), n), turns),
-        Checked::Refused(_) => 0.0,
+        Checked::Accepted => serve_posed(m, pose_of(m, &lent(e), n)),
+        Checked::Refused(_) => {}
     }
 }
 
@@ -103,27 +125,15 @@ fn fill(buf: &mut [u8], n: usize) {
     }
 }
 
-// The sum for the text of the first n bytes.
-fn sum_of_first(buf: &[u8], n: usize, turns: usize) -> f64 {
+fn answer_first(buf: &[u8], n: usize) {
     if n <= buf.len() {
-        return sum_of_text(&buf[..n], turns);
+        answer_text(&buf[..n]);
     }
-    0.0
-}
-
-// Six digits and a newline.
-fn read_number() -> usize {
-    let mut head = [0u8; 7];
-    io::read_full(0, &mut head);
-    length_of(head)
 }
 
 fn main() {
-    let turns = read_number();
     let n = read_number();
     let mut buf = [0u8; 65537];
     fill(&mut buf, n);
-    let sum = sum_of_first(&buf, n, turns);
-    io::print_hex(1, ieee::bits::pattern(sum), 16);
-    io::write_all(1, b"\n");
+    answer_first(&buf, n);
 }

@@ -142,6 +142,12 @@ pub extern "C" fn sewqirun_gap_record(
 
 // ---- a row's columns and its surfaces
 
+// One number a coordinate.
+pub type Entries = [f64; 16];
+
+// x and y of side A's surface, then of side B's.
+pub type Surfaces = [f64; 4];
+
 fn refused_by(c: Checked) -> usize
     ensures { λ r. ⌜ r ≡ refusedBy c ⌝ }
 {
@@ -154,7 +160,7 @@ fn refused_by(c: Checked) -> usize
 // Writes the gradient of row i, or its slip, out of those of n rows, with 0.0 behind it, and answers 0; where there is no such row answers 12, and nothing is written.
 #[no_mangle]
 pub extern "C" fn sewqirun_row_entries(
-    out: &mut [f64; 16],
+    out: &mut Entries,
     entries: &[f64],
     coords: usize,
     n: usize,
@@ -172,9 +178,9 @@ pub extern "C" fn sewqirun_row_entries(
     number
 }
 
-// Writes where the surfaces of side A and of side B are by a row: x and y of A's, then of B's.
+// Writes where the surfaces of both sides are by a row.
 #[no_mangle]
-pub extern "C" fn sewqirun_surfaces(out: &mut [f64; 4], place: &Place, value: &Value)
+pub extern "C" fn sewqirun_surfaces(out: &mut Surfaces, place: &Place, value: &Value)
     ensures { λ _. ⌜ now (out .exit) ≡ surfacesOf (rowIn (now (place .entry)) (now (value .entry))) ⌝ }
 {
     let row = row_from(*place, *value);
