@@ -1,5 +1,6 @@
 //! Readings of the original, for the texts that the program reading_calls reads.
 //!   readings answers       the original's readings for each text on standard input, as that program prints them
+//!   readings digests       the same as one number each, as the program prepared_calls prints them
 //!   readings tally         how many accepted texts on standard input have what
 //!   readings records SEED  built with `--cfg records`: the rows of each accepted text on standard input, and made-up ones, through the static library `row_exports`; last line 'N equal, M different', in texts
 mod checks;
@@ -15,7 +16,7 @@ mod sheet;
 mod splitmix;
 mod text;
 
-use contact::{Bearing, HowItBears, Piece, Row, Rows};
+use contact::{Bearing, HowItBears, PartId, Piece, Row, Rows};
 use libm::Lent;
 use mechanism::{Joint, Mechanism, Pose};
 use std::collections::BTreeMap;
@@ -74,13 +75,17 @@ fn floats(out: &mut String, all: &[f64]) {
     }
 }
 
-fn piece(out: &mut String, piece: Piece) {
-    let (letter, part, seg) = match piece {
+fn numbers(piece: Piece) -> (u64, PartId, u16) {
+    match piece {
         Piece::Segment { part, seg } => (0, part, seg),
         Piece::Arc { part, seg } => (1, part, seg),
         Piece::Vertex { part, seg } => (2, part, seg),
         Piece::Center { part } => (3, part, 0),
-    };
+    }
+}
+
+fn piece(out: &mut String, piece: Piece) {
+    let (letter, part, seg) = numbers(piece);
     write!(out, "{letter},{},{seg},", part.0).expect("a string");
 }
 
@@ -160,6 +165,62 @@ fn answer(text: &[u8]) -> String {
     }
     governed(&mut out, &r, &Rows::of(made));
     out
+}
+
+// The number h with x gone into it.
+fn mixed(h: u64, x: u64) -> u64 {
+    (h % 4_294_967_291 * 1_000_003 + (x & 0xffff_ffff) + (x >> 32) * 31) % 4_294_967_291
+}
+
+fn with_float(h: u64, x: f64) -> u64 {
+    mixed(h, if x.is_nan() { 0x7ff8_0000_0000_0000 } else { x.to_bits() })
+}
+
+fn with_bearing(h: u64, found: Option<Bearing>) -> u64 {
+    let Some(b) = found else {
+        return mixed(h, 0);
+    };
+    let how = match b.how {
+        HowItBears::Flat => 1,
+        HowItBears::StopEdge => 2,
+        HowItBears::KeyCorner => 3,
+    };
+    let h = [b.gap, b.point.x, b.point.y].into_iter().fold(mixed(h, how), with_float);
+    match b.slope {
+        Some(x) => with_float(mixed(h, 1), x),
+        None => mixed(h, 0),
+    }
+}
+
+// All of a reading in one number: the rows, the gradients, the slips, then pair by pair the overlaps and the bearing.
+fn digest_of(r: &Read1) -> u64 {
+    let mut h = 0;
+    for row in r.rows.rows() {
+        h = mixed(h, row.pair.into());
+        for piece in [row.feature.a, row.feature.b] {
+            let (letter, part, seg) = numbers(piece);
+            h = [letter, part.0.into(), seg.into()].into_iter().fold(h, mixed);
+        }
+        let n = row.normal.vector();
+        h = [row.gap, n.x, n.y, row.point.x, row.point.y].into_iter().fold(h, with_float);
+    }
+    h = (0..r.rows.len()).flat_map(|i| r.rows.grad(i)).fold(h, |h, &x| with_float(h, x));
+    h = (0..r.rows.len()).flat_map(|i| r.rows.slip(i)).fold(h, |h, &x| with_float(h, x));
+    for pair in 0..pairs(&r.mechanism) {
+        h = with_float(h, r.mechanism.pair_overlap(&r.pose, pair));
+        // Of `face_overlap` both zeros are alike.
+        let faces = r.mechanism.face_overlap(&r.pose, pair);
+        h = with_float(h, if faces == 0.0 { 0.0 } else { faces });
+        h = with_bearing(h, r.mechanism.bearing(&r.pose, &r.rows, pair));
+    }
+    h
+}
+
+fn digest(text: &[u8]) -> String {
+    match read(text) {
+        Ok(r) => format!("accepted,{},{}\n", r.rows.len(), digest_of(&r)),
+        Err(refusal) => format!("X,{},{}\n", refusal.number, refusal.place),
+    }
 }
 
 fn tally() {
@@ -243,18 +304,21 @@ fn records(seed: u64) {
     println!("{equal} equal, {different} different");
 }
 
+fn answers(of: fn(&[u8]) -> String) {
+    let mut out = std::io::stdout().lock();
+    for text in texts() {
+        out.write_all(of(&text).as_bytes()).expect("output");
+    }
+}
+
 fn main() {
     let args: Vec<String> = std::env::args().skip(1).collect();
     match args.iter().map(String::as_str).collect::<Vec<_>>().as_slice() {
-        ["answers"] => {
-            let mut out = std::io::stdout().lock();
-            for text in texts() {
-                out.write_all(answer(&text).as_bytes()).expect("output");
-            }
-        }
+        ["answers"] => answers(answer),
+        ["digests"] => answers(digest),
         ["tally"] => tally(),
         #[cfg(records)]
         ["records", seed] => records(seed.parse().expect("a seed")),
-        _ => eprintln!("usage: readings answers, readings tally"),
+        _ => eprintln!("usage: readings answers, readings digests, readings tally"),
     }
 }

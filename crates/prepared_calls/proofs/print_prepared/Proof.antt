@@ -1,0 +1,99 @@
+use Prim.Native.Nat.{ℕ}
+use mathlib.Core.Path.{_≡_, refl, sym, ap, _∙_}
+use mathlib.Core.List.{List}
+use lib.ListN.{length, replicate, length-replicate}
+use lib.Seq.{length-sets}
+use Rattle.ieee.specs.Consts.{zeroF}
+use Rattle.mechanism.specs.Check.{checkOf}
+use Rattle.bodies.specs.declared.Checked.{Checked}
+use Rattle.bodies.specs.declared.Checked.the-variants.{Accepted, Refused}
+use Rattle.tables.specs.Tables.{drawnTable, sampledTable, partTable, faceTable, faceNameTable, discTable, discNameTable, sideTable, centerTable, choiceTable, writtenIf}
+use borrow.Author.Needs.{needs}
+use Rattle.prepared_calls.proofs.print_prepared.Statement.{statement}
+use Rattle.prepared_calls.proofs.print_prepared.Tie as tie
+
+-- a table that may have been written is as long as before
+as-long : {A : Type 0} (c : Checked) (l rows : List A) → length (writtenIf c l rows) ≡ length l
+as-long Accepted l rows = length-sets l 0 rows
+as-long (Refused p) l rows = refl
+
+prepare-requires : tie.Need-prepare-requires
+prepare-requires c κs = search needs
+
+slice-aggregate-print-reading : tie.Need-slice-aggregate-print-reading
+slice-aggregate-print-reading c =
+    let m = c .before .before .before .before .before .before .before .before .before .before .before .before .before .before .before .args .m in
+    sym (ap length (c .before .before .before .before .prepare .ensures .1 .1 .0 .0) ∙ as-long (checkOf m) (replicate 384 (replicate 6 zeroF)) (faceTable m) ∙ length-replicate 384 (replicate 6 zeroF))
+
+slice-aggregate-print-reading-2 : tie.Need-slice-aggregate-print-reading-2
+slice-aggregate-print-reading-2 c =
+    let m = c .before .before .before .before .before .before .before .before .before .before .before .before .before .before .before .before .args .m in
+    sym (ap length (c .before .before .before .before .before .prepare .ensures .1 .1 .0 .1) ∙ as-long (checkOf m) (replicate 384 (replicate {A = ℕ} 3 0)) (faceNameTable m) ∙ length-replicate 384 (replicate {A = ℕ} 3 0))
+
+slice-aggregate-print-reading-3 : tie.Need-slice-aggregate-print-reading-3
+slice-aggregate-print-reading-3 c =
+    let m = c .before .before .before .before .before .before .before .before .before .before .before .before .before .before .before .before .before .args .m in
+    sym (ap length (c .before .before .before .before .before .before .prepare .ensures .1 .1 .0 .2) ∙ as-long (checkOf m) (replicate 896 (replicate 7 zeroF)) (discTable m) ∙ length-replicate 896 (replicate 7 zeroF))
+
+slice-aggregate-print-reading-4 : tie.Need-slice-aggregate-print-reading-4
+slice-aggregate-print-reading-4 c =
+    let m = c .before .before .before .before .before .before .before .before .before .before .before .before .before .before .before .before .before .before .args .m in
+    sym (ap length (c .before .before .before .before .before .before .before .prepare .ensures .1 .1 .0 .3) ∙ as-long (checkOf m) (replicate 896 (replicate {A = ℕ} 3 0)) (discNameTable m) ∙ length-replicate 896 (replicate {A = ℕ} 3 0))
+
+slice-aggregate-print-reading-5 : tie.Need-slice-aggregate-print-reading-5
+slice-aggregate-print-reading-5 c =
+    let m = c .before .before .before .before .before .before .before .before .before .before .before .before .before .before .before .before .before .before .before .args .m in
+    sym (ap length (c .before .before .before .before .before .before .before .before .prepare .ensures .1 .1 .1 .0) ∙ as-long (checkOf m) (replicate 32 (replicate {A = ℕ} 7 0)) (sideTable m) ∙ length-replicate 32 (replicate {A = ℕ} 7 0))
+
+slice-aggregate-print-reading-6 : tie.Need-slice-aggregate-print-reading-6
+slice-aggregate-print-reading-6 c =
+    let m = c .before .before .before .before .before .before .before .before .before .before .before .before .before .before .before .before .before .before .before .before .args .m in
+    sym (ap length (c .before .before .before .before .before .before .before .before .before .prepare .ensures .1 .1 .1 .1) ∙ as-long (checkOf m) (replicate 32 (replicate 2 zeroF)) (centerTable m) ∙ length-replicate 32 (replicate 2 zeroF))
+
+slice-aggregate-print-reading-7 : tie.Need-slice-aggregate-print-reading-7
+slice-aggregate-print-reading-7 c =
+    let m = c .before .before .before .before .before .before .before .before .before .before .before .before .before .before .before .before .before .before .before .before .before .args .m in
+    sym (ap length (c .before .before .before .before .before .before .before .before .before .before .prepare .ensures .1 .1 .1 .2) ∙ as-long (checkOf m) (replicate 64 (replicate {A = ℕ} 32 0)) (choiceTable m) ∙ length-replicate 64 (replicate {A = ℕ} 32 0))
+
+slice-aggregate-print-reading-8 : tie.Need-slice-aggregate-print-reading-8
+slice-aggregate-print-reading-8 c =
+    let m = c .before .before .before .before .before .before .before .before .before .before .before .before .before .before .before .before .before .before .before .before .before .before .args .m in
+    sym (ap length (c .before .before .before .before .before .before .before .before .before .before .before .prepare .ensures .1 .0 .0) ∙ as-long (checkOf m) (replicate 6144 (replicate 2 zeroF)) (drawnTable (m .parts) (m .outlines)) ∙ length-replicate 6144 (replicate 2 zeroF))
+
+slice-aggregate-print-reading-9 : tie.Need-slice-aggregate-print-reading-9
+slice-aggregate-print-reading-9 c =
+    let m = c .before .before .before .before .before .before .before .before .before .before .before .before .before .before .before .before .before .before .before .before .before .before .before .args .m in
+    sym (ap length (c .before .before .before .before .before .before .before .before .before .before .before .before .prepare .ensures .1 .0 .1) ∙ as-long (checkOf m) (replicate 13056 (replicate 2 zeroF)) (sampledTable (m .parts) (m .outlines)) ∙ length-replicate 13056 (replicate 2 zeroF))
+
+slice-aggregate-first : tie.Need-slice-aggregate-first
+slice-aggregate-first c =
+    let m = c .before .before .before .before .before .before .before .before .before .before .before .before .before .before .before .before .before .before .before .before .before .before .before .before .args .m in
+    sym (ap length (c .before .before .before .before .before .before .before .before .before .before .before .before .before .prepare .ensures .1 .0 .2) ∙ as-long (checkOf m) (replicate 32 (replicate {A = ℕ} 5 0)) (partTable (m .parts) (m .outlines)) ∙ length-replicate 32 (replicate {A = ℕ} 5 0))
+
+first-requires : tie.Need-first-requires
+first-requires c κs = search needs
+
+print-reading-requires : tie.Need-print-reading-requires
+print-reading-requires c κs = search needs
+
+returns : tie.Need-returns
+returns c = search needs
+
+pub print-prepared-spec : {M : Type 1} → statement M
+print-prepared-spec =
+    tie.close
+    (tie.spec
+    prepare-requires
+    slice-aggregate-print-reading
+    slice-aggregate-print-reading-2
+    slice-aggregate-print-reading-3
+    slice-aggregate-print-reading-4
+    slice-aggregate-print-reading-5
+    slice-aggregate-print-reading-6
+    slice-aggregate-print-reading-7
+    slice-aggregate-print-reading-8
+    slice-aggregate-print-reading-9
+    slice-aggregate-first
+    first-requires
+    print-reading-requires
+    returns)
