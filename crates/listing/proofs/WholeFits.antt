@@ -14,9 +14,10 @@ use Rattle.bodies.specs.declared.Problem.{Problem}
 use Rattle.bodies.specs.declared.pose.Pose.{Pose}
 use Rattle.shown_rows.specs.Rows.{rowsChecked}
 use Rattle.sheet.specs.Read.{sheetOf}
+use Rattle.sheet.specs.Posed.{poseOf}
 use Rattle.sheet.specs.declared.Sheet.{Sheet}
 use Rattle.reading_lines.specs.Readings.{refusal, readIf, longest}
-use Rattle.listing.specs.Listing.{posedIf, poseOf, posedLines, sheetIf, listingOf}
+use Rattle.listing.specs.Listing.{posedIf, posedLines, sheetIf, listingOf}
 use Rattle.reading_lines.proofs.WholeSizes.{all-fits}
 use Rattle.reading_lines.proofs.WholeLaws.{refusal-few}
 

@@ -1,34 +1,21 @@
 -- The listing of a sheet text: what the program `readings` prints (document 01, "The sheet text"). Definitions only.
 use Prim.Native.Nat.{ℕ}
-use mathlib.Core.List.{List, [], _∷_, map}
-use lib.ListN.{take}
+use mathlib.Core.List.{List}
 use lib.Ieee.{Float}
-use Rattle.bodies.specs.Pose.{posedOf}
-use Rattle.mechanism.specs.Pose.{poseChecked}
 use Rattle.bodies.specs.declared.Checked.{Checked}
 use Rattle.bodies.specs.declared.Checked.the-variants.{Accepted, Refused}
 use Rattle.mechanism.specs.declared.Mechanism.{Mechanism}
-use Rattle.bodies.specs.declared.pose.Entry.{Entry}
 use Rattle.bodies.specs.declared.pose.Pose.{Pose}
-use Rattle.bodies.specs.declared.pose.Posed.{Posed}
 use Rattle.sheet.specs.Read.{sheetOf}
+use Rattle.sheet.specs.Posed.{poseOf}
 use Rattle.sheet.specs.declared.Entries.{Entries}
 use Rattle.sheet.specs.declared.Sheet.{Sheet}
 use Rattle.reading_lines.specs.Readings.{refusal, readLines}
 
 -- ---- a text
-abbrev pub entryRow : Entry → List Float
-entryRow e = e .value ∷ e .sine ∷ e .cosine ∷ []
-
-abbrev pub lentOf : Entries → List (List Float)
-lentOf e = map entryRow (take (e .count) (e .entry))
-
 abbrev pub posedIf : Checked → Mechanism → Pose → Float → List ℕ
 posedIf Accepted m q margin = readLines m q margin
 posedIf (Refused p) m q margin = refusal p
-
-abbrev pub poseOf : Mechanism → Entries → Posed
-poseOf m e = posedOf (poseChecked m (lentOf e)) (m .bodies) (lentOf e)
 
 unfoldable pub posedLines : Mechanism → Entries → Float → List ℕ
 posedLines m e margin = posedIf (poseOf m e .checked) m (poseOf m e .pose) margin

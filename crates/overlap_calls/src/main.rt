@@ -6,7 +6,6 @@ ghost use Prim.Native.Nat.{_≤_};
 use bodies::Bodies;
 use bodies::Checked;
 use bodies::Problem;
-use bodies::pose::Entry;
 use bodies::pose::Placement;
 use bodies::pose::Pose;
 use bodies::pose::Posed;
@@ -14,7 +13,6 @@ use mechanism::FloatAnswer;
 use mechanism::Mechanism;
 use mechanism::Pairs;
 use mechanism::Parts;
-use sheet::Entries;
 
 // A number of at most six digits, with one more digit after it.
 fn tens(v: usize, b: u8) -> usize
@@ -160,26 +158,6 @@ fn print_overlaps(m: Mechanism, q: Pose) {
     print_parts(m, q);
 }
 
-// The entries as they are lent.
-fn lent(s: Entries) -> [[f64; 3]; 16] {
-    let mut q = [[0.0; 3]; 16];
-    let mut i: usize = 0;
-    while i < 16 {
-        let e = s.entry[i];
-        q[i] = [e.value, e.sine, e.cosine];
-        i += 1;
-    }
-    q
-}
-
-// The pose for the first n of the lent entries.
-fn pose_of(m: Mechanism, q: &[[f64; 3]], n: usize) -> Posed {
-    if n < q.len() {
-        return m.pose(&q[..n]);
-    }
-    m.pose(q)
-}
-
 fn print_posed(m: Mechanism, p: Posed) {
     let c = p.checked;
     let q = p.pose;
@@ -193,10 +171,9 @@ fn answer(text: &[u8]) {
     let s = sheet::read(text);
     let m = s.mechanism;
     let e = s.entries;
-    let n = e.count;
     let c = s.checked;
     match c {
-        Checked::Accepted => print_posed(m, pose_of(m, &lent(e), n)),
+        Checked::Accepted => print_posed(m, sheet::posed::posed(m, e)),
         Checked::Refused(p) => print_problem(p),
     }
 }

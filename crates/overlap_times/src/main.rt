@@ -3,14 +3,12 @@
 ghost use Prim.Native.Nat.{_≤_};
 use bodies::Checked;
 use bodies::Problem;
-use bodies::pose::Entry;
 use bodies::pose::Placement;
 use bodies::pose::Pose;
 use bodies::pose::Posed;
 use mechanism::FloatAnswer;
 use mechanism::Mechanism;
 use mechanism::Pairs;
-use sheet::Entries;
 
 // A number of at most six digits, with one more digit after it.
 fn tens(v: usize, b: u8) -> usize
@@ -55,26 +53,6 @@ fn sum_of(m: Mechanism, q: Pose, turns: usize) -> f64 {
     sum
 }
 
-// The entries as they are lent.
-fn lent(s: Entries) -> [[f64; 3]; 16] {
-    let mut q = [[0.0; 3]; 16];
-    let mut i: usize = 0;
-    while i < 16 {
-        let e = s.entry[i];
-        q[i] = [e.value, e.sine, e.cosine];
-        i += 1;
-    }
-    q
-}
-
-// The pose for the first n of the lent entries.
-fn pose_of(m: Mechanism, q: &[[f64; 3]], n: usize) -> Posed {
-    if n < q.len() {
-        return m.pose(&q[..n]);
-    }
-    m.pose(q)
-}
-
 // Six digits and a newline; 0 where there are none.
 fn read_number() -> usize {
     let mut head = [0u8; 7];
@@ -110,10 +88,9 @@ fn answer_text(text: &[u8]) {
     let s = sheet::read(text);
     let m = s.mechanism;
     let e = s.entries;
-    let n = e.count;
     let c = s.checked;
     match c {
-        Checked::Accepted => serve_posed(m, pose_of(m, &lent(e), n)),
+        Checked::Accepted => serve_posed(m, sheet::posed::posed(m, e)),
         Checked::Refused(_) => {}
     }
 }

@@ -5,7 +5,6 @@ ghost use Prim.Native.Nat.{_≤_};
 use bodies::Bodies;
 use bodies::Checked;
 use bodies::Problem;
-use bodies::pose::Entry;
 use bodies::pose::Lent;
 use geometry::Point;
 use mechanism::Mechanism;
@@ -20,7 +19,6 @@ use mechanism::rows::Value;
 use reading::PairReading;
 use reading::Reading;
 use reading::prepared::read_in;
-use sheet::Entries;
 use strips::ChoiceRow;
 use strips::DiscRow;
 use strips::FaceRow;
@@ -291,18 +289,6 @@ fn print_prepared(m: Mechanism, margin: f64, q: &[Lent]) {
     );
 }
 
-// The entries as they are lent.
-fn lent(s: Entries) -> [[f64; 3]; 16] {
-    let mut q = [[0.0; 3]; 16];
-    let mut i: usize = 0;
-    while i < 16 {
-        let e = s.entry[i];
-        q[i] = [e.value, e.sine, e.cosine];
-        i += 1;
-    }
-    q
-}
-
 // The first n entries, or all.
 fn first_entries<'a>(q: &'a [Lent], n: usize) -> &'a [Lent] {
     if n < q.len() {
@@ -318,7 +304,7 @@ fn answer(text: &[u8]) {
     let n = e.count;
     let c = s.checked;
     match c {
-        Checked::Accepted => print_prepared(m, s.margin, first_entries(&lent(e), n)),
+        Checked::Accepted => print_prepared(m, s.margin, first_entries(&sheet::posed::lent(e), n)),
         Checked::Refused(p) => print_problem(p),
     }
 }

@@ -10,7 +10,6 @@ use bearings::BearingAnswer;
 use bodies::Bodies;
 use bodies::Checked;
 use bodies::Problem;
-use bodies::pose::Entry;
 use bodies::pose::Placement;
 use bodies::pose::Pose;
 use bodies::pose::Posed;
@@ -31,7 +30,6 @@ use mechanism::rows::Value;
 use mechanism::rows::row_from;
 use reading::PairReading;
 use reading::Reading;
-use sheet::Entries;
 
 // A number of at most six digits, with one more digit after it.
 fn tens(v: usize, b: u8) -> usize
@@ -327,26 +325,6 @@ fn print_reading(m: Mechanism, q: Pose, margin: f64) {
     }
 }
 
-// The entries as they are lent.
-fn lent(s: Entries) -> [[f64; 3]; 16] {
-    let mut q = [[0.0; 3]; 16];
-    let mut i: usize = 0;
-    while i < 16 {
-        let e = s.entry[i];
-        q[i] = [e.value, e.sine, e.cosine];
-        i += 1;
-    }
-    q
-}
-
-// The pose for the first n of the lent entries.
-fn pose_of(m: Mechanism, q: &[[f64; 3]], n: usize) -> Posed {
-    if n < q.len() {
-        return m.pose(&q[..n]);
-    }
-    m.pose(q)
-}
-
 fn print_posed(m: Mechanism, p: Posed, margin: f64) {
     let c = p.checked;
     let q = p.pose;
@@ -360,10 +338,9 @@ fn answer(text: &[u8]) {
     let s = sheet::read(text);
     let m = s.mechanism;
     let e = s.entries;
-    let n = e.count;
     let c = s.checked;
     match c {
-        Checked::Accepted => print_posed(m, pose_of(m, &lent(e), n), s.margin),
+        Checked::Accepted => print_posed(m, sheet::posed::posed(m, e), s.margin),
         Checked::Refused(p) => print_problem(p),
     }
 }

@@ -4,7 +4,6 @@ ghost use Prim.Native.Nat.{_≤_};
 use bodies::Bodies;
 use bodies::Checked;
 use bodies::Problem;
-use bodies::pose::Entry;
 use bodies::pose::Lent;
 use bodies::pose::Placement;
 use bodies::pose::Pose;
@@ -20,7 +19,6 @@ use overlap::prepared::pair_overlap_in;
 use reading::PairReading;
 use reading::Reading;
 use reading::prepared::read_in;
-use sheet::Entries;
 use strips::ChoiceRow;
 use strips::DiscRow;
 use strips::FaceRow;
@@ -56,18 +54,6 @@ fn fill(buf: &mut [u8], n: usize) {
     if n <= buf.len() {
         io::read_full(0, &mut buf[..n]);
     }
-}
-
-// The entries as they are lent.
-fn lent(s: Entries) -> [[f64; 3]; 16] {
-    let mut q = [[0.0; 3]; 16];
-    let mut i: usize = 0;
-    while i < 16 {
-        let e = s.entry[i];
-        q[i] = [e.value, e.sine, e.cosine];
-        i += 1;
-    }
-    q
 }
 
 fn gap(b: MaybeBearing) -> f64 {
@@ -307,7 +293,7 @@ fn answer_text(text: &[u8]) {
     let n = e.count;
     let c = s.checked;
     match c {
-        Checked::Accepted => answer(m, s.margin, first_entries(&lent(e), n)),
+        Checked::Accepted => answer(m, s.margin, first_entries(&sheet::posed::lent(e), n)),
         Checked::Refused(_) => {}
     }
 }

@@ -2,3 +2,4 @@ pub mod Counting
 pub mod Reading
 pub mod Description
 pub mod Worked
+pub mod Lents

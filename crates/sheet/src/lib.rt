@@ -2,6 +2,7 @@
 mod draft;
 mod grammar;
 mod limits;
+pub mod posed;
 
 use bodies::Bodies;
 use bodies::Checked;

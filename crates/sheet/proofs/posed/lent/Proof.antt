@@ -1,9 +1,9 @@
 use native.Mathlib.Omega.{arith}
 use mathlib.Core.Path.{refl}
 use Prim.Native.Nat.{_-_}
-use Rattle.listing.proofs.WholeLaws.{Lents, lents-start, lents-more, lents-end, entries-long}
-use Rattle.listing.proofs.whole.lent.Statement.{statement}
-use Rattle.listing.proofs.whole.lent.Tie as tie
+use Rattle.sheet.proofs.Lents.{Lents, lents-start, lents-more, lents-end, entries-long}
+use Rattle.sheet.proofs.posed.lent.Statement.{statement}
+use Rattle.sheet.proofs.posed.lent.Tie as tie
 
 abbrev Inv-loop : tie.InvT-loop
 Inv-loop e q₀ i₀ q i = Lents (e .entry) q i
