@@ -53,18 +53,18 @@ fn all_bits(all: &[f64]) -> Vec<u64> {
 // How many records the library holds.
 const HELD: usize = 64;
 
-// The governing row and its gap of every pair that a text can have, of the number behind and of the last number: of the first n rows, where more are lent, and of the first of them as records.
-fn governing_alike(rows: &[Row], n: usize) -> bool {
+// The governing row and its gap of every pair that a text can have, of the number behind and of the last number: of the first n rows, and of the first of them as records. Of the second halves of the rows only k are lent.
+fn governing_alike(rows: &[Row], k: usize, n: usize) -> bool {
     let places: Vec<Place> = rows.iter().map(place).collect();
     let values: Vec<Value> = rows.iter().map(value).collect();
-    let (p, v, k) = (places.as_ptr(), values.as_ptr(), rows.len());
+    let (p, v, all) = (places.as_ptr(), values.as_ptr(), rows.len());
     let first = Rows::of(rows[..n.min(k)].to_vec());
     let held = Rows::of(rows[..k.min(HELD)].to_vec());
     (0..=17).chain([u16::MAX]).all(|pair| {
         let number = usize::from(pair);
-        let found = unsafe { (sewqirun_governing(p, k, v, k, n, number), sewqirun_governing_record(p, k, v, k, number)) };
+        let found = unsafe { (sewqirun_governing(p, all, v, k, n, number), sewqirun_governing_record(p, all, v, k, number)) };
         let gaps = [0.5, -0.25].map(|none| unsafe {
-            (none, sewqirun_gap(p, k, v, k, n, number, none), sewqirun_gap_record(p, k, v, k, number, none))
+            (none, sewqirun_gap(p, all, v, k, n, number, none), sewqirun_gap_record(p, all, v, k, number, none))
         });
         found == (first.governing(pair).unwrap_or(n), held.governing(pair).unwrap_or(HELD))
             && gaps.iter().all(|&(none, gap, record)| {
@@ -82,24 +82,33 @@ fn surfaces_alike(rows: &[Row]) -> bool {
     })
 }
 
-// Gradients or slips by the row's number, and 12 with nothing written for the number behind the last.
+// Gradients or slips by the row's number; 12 with nothing written for the number behind the last and the last number, for seventeen coordinates, and where an entry of the last row is missing.
 fn entries_alike(entries: &[f64], coords: usize, n: usize, row: impl Fn(usize) -> Vec<f64>) -> bool {
-    (0..=n).all(|i| {
+    let asked = |count: usize, coords: usize, i: usize| {
         let mut out = [0.375; 16];
-        let refused = unsafe { sewqirun_row_entries(&mut out, entries.as_ptr(), entries.len(), coords, n, i) };
-        if i == n {
-            return refused == 12 && out == [0.375; 16];
-        }
+        let refused = unsafe { sewqirun_row_entries(&mut out, entries.as_ptr(), count, coords, n, i) };
+        (refused, out)
+    };
+    let none = (12, [0.375; 16]);
+    let (count, last) = (entries.len(), n.saturating_sub(1));
+    let refused = asked(count, coords, n) == none
+        && asked(count, coords, usize::MAX) == none
+        && asked(count, 17, last) == none
+        && (count == 0 || asked(count - 1, coords, last) == none);
+    refused && (0..n).all(|i| {
+        let (refused, out) = asked(count, coords, i);
         refused == 0
             && all_bits(&out[..coords]) == all_bits(&row(i))
             && all_bits(&out[coords..]) == vec![0; 16 - coords]
     })
 }
 
-// All rows, some of them, and more than there are.
+// All rows, some of them, and more than there are; then with some of the second halves missing.
 fn alike(rows: &[Row], random: &mut Random) -> bool {
-    let k = rows.len();
-    [k, random.next() as usize % (k + 1), k + 3].into_iter().all(|n| governing_alike(rows, n)) && surfaces_alike(rows)
+    let all = rows.len();
+    let some = random.next() as usize % (all + 1);
+    [(all, all), (all, some), (all, all + 3), (some, all)].into_iter().all(|(k, n)| governing_alike(rows, k, n))
+        && surfaces_alike(rows)
 }
 
 fn some_float(random: &mut Random) -> f64 {
@@ -148,7 +157,9 @@ fn made_up(rows: &[Row], random: &mut Random) -> Vec<Row> {
             _ => {}
         }
     }
-    for _ in 0..random.next() % 12 {
+    // Now and then more than the library holds as records.
+    let more = if random.next() % 16 == 0 { HELD as u64 } else { 0 };
+    for _ in 0..more + random.next() % 12 {
         let at = random.next() as usize % (made.len() + 1);
         made.insert(at, some_row(random));
     }
