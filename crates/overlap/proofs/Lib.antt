@@ -7,3 +7,4 @@ pub mod Answers
 pub mod Deepest
 pub mod Drawn
 pub mod PairRows
+pub mod Asked

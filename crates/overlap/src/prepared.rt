@@ -11,7 +11,9 @@ ghost use Rattle.material.specs.Range.{Covers};
 ghost use Rattle.bodies.specs.Pose.{worldOf};
 ghost use Rattle.strips.specs.Strips.{pointAt, rowOfMaterial, rowOfSampled};
 ghost use Rattle.drawing.specs.Prepared.{allDrawn, choiceAt, materialIn};
-ghost use Rattle.overlap.specs.Prepared.{sunkIn, pairOverlapIn};
+ghost use Rattle.overlap.specs.Prepared.{sunkIn, pairOverlapIn, pairOverlapAnswerIn};
+use bodies::Bodies;
+use bodies::Problem;
 use bodies::pose::Placement;
 use bodies::pose::Pose;
 use bodies::pose::placement_at;
@@ -29,6 +31,7 @@ use material::Spot;
 use material::deeper_square;
 use material::depth;
 use material::y_range;
+use mechanism::FloatAnswer;
 use strips::ChoiceRow;
 use strips::PartFacts;
 use strips::PartRow;
@@ -279,4 +282,40 @@ pub fn pair_overlap_in(
         );
     }
     0.0
+}
+
+// The same of pair `pair` of `pairs`, or the first refusal that applies.
+pub fn pair_overlap(
+    bodies: Bodies,
+    drawn: &[PointRow],
+    sampled: &[PointRow],
+    parts: &[PartRow],
+    sides: &[SideRow],
+    centers: &[PointRow],
+    choices: &[ChoiceRow],
+    pairs: usize,
+    q: Pose,
+    pair: usize,
+) -> FloatAnswer
+    ensures { λ r. ⌜ r ≡ pairOverlapAnswerIn (now (drawn .entry)) (now (sampled .entry)) (now (parts .entry)) (now (sides .entry)) (now (centers .entry)) (now (choices .entry)) bodies pairs q pair ⌝ }
+{
+    if 16 < pairs {
+        return FloatAnswer::NoFloat(Problem::LimitPassed);
+    }
+    if q.fits(bodies) {
+        if pair < pairs {
+            return FloatAnswer::IsFloat(pair_overlap_in(
+                drawn,
+                sampled,
+                parts,
+                sides,
+                centers,
+                choices,
+                q,
+                pair,
+            ));
+        }
+        return FloatAnswer::NoFloat(Problem::NoSuchThing);
+    }
+    FloatAnswer::NoFloat(Problem::PoseNotMatching)
 }

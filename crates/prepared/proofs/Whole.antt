@@ -7,7 +7,7 @@ use mathlib.Core.List.{List, _∷_, _++_, map}
 use lib.Dec.{leb, ltb, eqb}
 use lib.ListN.{length}
 use lib.Ieee.{Float}
-use borrow.Author.Tests.{le-ltb}
+use borrow.Author.Tests.{le-ltb, ltb-true}
 use Rattle.laws.specs.Fill.{filled}
 use Rattle.laws.specs.Lists.{listIn, flat}
 use Rattle.laws.specs.Loops.{anyIn}
@@ -15,14 +15,15 @@ use Rattle.laws.proofs.Choice.{or-no}
 use Rattle.laws.proofs.Finite.{any-all}
 use Rattle.laws.proofs.Sums.{sum-same}
 use Rattle.bodies.specs.Check.{isAccepted, andThen, refusedIf, bodiesChecked, bodiesStand}
-use Rattle.mechanism.specs.Check.{limitPassed, checkOf}
+use Rattle.mechanism.specs.Check.{limitPassed, checkOf, callChecked, answerOf}
 use Rattle.mechanism.specs.Description.{pairAt}
-use Rattle.bodies.specs.Pose.{bodiesPosed}
+use Rattle.bodies.specs.Pose.{bodiesPosed, poseFits}
 use Rattle.mechanism.specs.Pose.{poseChecked}
 use Rattle.mechanism.specs.Rows.{placeRow, valueRow, gapIn}
 use Rattle.mechanism.specs.Rows as Rows
 use Rattle.bodies.specs.declared.Checked.{Checked}
 use Rattle.bodies.specs.declared.Checked.the-variants.{Accepted, Refused}
+use Rattle.mechanism.specs.declared.FloatAnswer.{FloatAnswer}
 use Rattle.mechanism.specs.declared.Mechanism.{Mechanism}
 use Rattle.bodies.specs.declared.Problem.{Problem}
 use Rattle.bodies.specs.declared.Problem.the-variants.{LimitPassed, PoseNotMatching, NoSuchThing, TooFewRows}
@@ -36,6 +37,8 @@ use Rattle.sides.specs.declared.contacts.PairFeatures.{PairFeatures}
 use Rattle.strips.specs.Strips.{sideAt, rowA, rowB}
 use Rattle.prepared_candidates.specs.Prepared.{boundIn}
 use Rattle.proximities.specs.declared.Candidate.{Candidate}
+use Rattle.overlap.specs.Overlap.{pairOverlap, pairOverlapAnswer}
+use Rattle.overlap.specs.Prepared.{pairOverlapIn, askChecked, pairOverlapAnswerIn}
 use Rattle.governing.specs.Governing.{governingOf}
 use Rattle.bearings.specs.Bearing.{rowAt}
 use Rattle.shown_rows.specs.Rows.{candidateAt, shownOf, rowOf, gradOf, slipOf, pairRows, rowsOfPair, gradsOfPair, slipsOfPair, rowsOf, gradsOf, slipsOf, rowsChecked}
@@ -69,6 +72,18 @@ passed (Refused p) next e = absurd (false≢true (ap isAccepted e))
 then-nothing : (b : Bool) (p : Problem) → andThen (refusedIf b p) Accepted ≡ refusedIf b p
 then-nothing true p = refl
 then-nothing false p = refl
+
+-- what is asked of a pose and a pair; where there is no such pair the number does not matter
+abbrev asked : Bool → Bool → Checked
+asked fits known = andThen (refusedIf (not fits) PoseNotMatching) (refusedIf (not known) NoSuchThing)
+
+no-pair : (fits : Bool) (x y : Float) → answerOf (asked fits false) x ≡ answerOf (asked fits false) y
+no-pair true x y = refl
+no-pair false x y = refl
+
+asked-whole : (fits known : Bool) → asked fits known ≡ andThen (refusedIf (not fits) PoseNotMatching) (andThen (refusedIf (not known) NoSuchThing) Accepted)
+asked-whole true known = sym (then-nothing (not known) NoSuchThing)
+asked-whole false known = refl
 
 -- the bodies of an accepted description stand
 stand : (m : Mechanism) → checkOf m ≡ Accepted → bodiesStand (m .bodies) ≡ Accepted
@@ -145,6 +160,31 @@ module _ (m : Mechanism) (e : checkOf m ≡ Accepted) {faces : List (List Float)
         ∙ ap₂ from none-off all-bounds
         ∙ sym (goes-on (checkOf m) (from false (mechanismBound m)) (ap isAccepted e))
 
+  -- ---- a pair's overlap, asked for by itself
+  module _ (q : Pose) (i : ℕ) where
+    abbrev fits : Bool
+    fits = poseFits (m .bodies) q
+
+    ask-goes : askChecked (m .bodies) (m .pairs .count) q i ≡ asked fits (ltb i (m .pairs .count))
+    ask-goes = goes-on-if LimitPassed (asked fits (ltb i (m .pairs .count))) few-pairs
+
+    call-goes : asked fits (ltb i (m .pairs .count)) ≡ callChecked m fits (ltb i (m .pairs .count)) true
+    call-goes =
+        let rest = andThen (refusedIf (not fits) PoseNotMatching) (andThen (refusedIf (not (ltb i (m .pairs .count))) NoSuchThing) Accepted) in
+        asked-whole fits (ltb i (m .pairs .count)) ∙ sym (goes-on (checkOf m) rest (ap isAccepted e))
+
+    number-same : (known : Bool) → ltb i (m .pairs .count) ≡ known
+        → answerOf (asked fits known) (pairOverlapIn drawn sampled parts sides centers choices q i) ≡ answerOf (asked fits known) (pairOverlap (m .parts) (m .outlines) q (pairAt (m .pairs) i))
+    number-same true h = ap (answerOf (asked fits true)) (pair-overlap-read m e t i (ltb-true i (m .pairs .count) h) q)
+    number-same false h = no-pair fits _ _
+
+    overlap-asked : pairOverlapAnswerIn drawn sampled parts sides centers choices (m .bodies) (m .pairs .count) q i ≡ pairOverlapAnswer m q i
+    unfolding pairOverlapAnswerIn pairOverlapAnswer
+    overlap-asked =
+        ap (λ (c : Checked). answerOf c (pairOverlapIn drawn sampled parts sides centers choices q i)) ask-goes
+        ∙ number-same (ltb i (m .pairs .count)) refl
+        ∙ ap (λ (c : Checked). answerOf c (pairOverlap (m .parts) (m .outlines) q (pairAt (m .pairs) i))) call-goes
+
   -- ---- the readings
   module _ (q : Pose) where
     module _ (places : List (List ℕ)) (values : List (List Float)) (n : ℕ) where
@@ -192,6 +232,7 @@ module _ (m : Mechanism) (e : checkOf m ≡ Accepted) {faces : List (List Float)
     slips = all-slips;
     bounds = all-bounds;
     checks = checked-as;
+    pair-overlaps = overlap-asked;
     pair-readings = all-readings;
     reading = whole-reading;
     posed = posed-as;

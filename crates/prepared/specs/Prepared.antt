@@ -12,6 +12,8 @@ use Rattle.mechanism.specs.Pose.{poseChecked}
 use Rattle.mechanism.specs.declared.Mechanism.{Mechanism}
 use Rattle.bodies.specs.declared.pose.Pose.{Pose}
 use Rattle.sides.specs.Contacts.{mechanismBound}
+use Rattle.overlap.specs.Overlap.{pairOverlapAnswer}
+use Rattle.overlap.specs.Prepared.{pairOverlapAnswerIn}
 use Rattle.shown_rows.specs.Rows.{rowsOf, gradsOf, slipsOf, rowsChecked}
 use Rattle.prepared_rows.specs.Prepared.{allRows, allGrads, allSlips, boundsIn, preparedChecked}
 use Rattle.reading.specs.Reading.{pairReadings, readingOf}
@@ -37,6 +39,7 @@ pub record ReadsAs (m : Mechanism) (faceRows : List (List Float)) (faceNames : L
   pub slips : (q : Pose) (margin : Float) → allSlips faceRows faceNames discRows discNames sideRows centerRows choiceRows drawnRows (partTable (m .parts) (m .outlines)) (m .bodies) q margin (m .pairs .count) ≡ slipsOf m q margin
   pub bounds : boundsIn sideRows (m .pairs .count) ≡ mechanismBound m
   pub checks : (q : Pose) (w x y z : ℕ) → preparedChecked (m .bodies) (m .pairs .count) sideRows q w x y z ≡ rowsChecked m q w x y z
+  pub pair-overlaps : (q : Pose) (i : ℕ) → pairOverlapAnswerIn drawnRows sampledRows (partTable (m .parts) (m .outlines)) sideRows centerRows choiceRows (m .bodies) (m .pairs .count) q i ≡ pairOverlapAnswer m q i
   pub pair-readings : (q : Pose) (places : List (List ℕ)) (values : List (List Float)) (n : ℕ) → pairReadingsIn faceRows faceNames discRows discNames sideRows centerRows choiceRows drawnRows sampledRows (partTable (m .parts) (m .outlines)) q places values n (m .pairs .count) ≡ pairReadings m q places values n
   pub reading : (q : Pose) (margin : Float) (w x y z : ℕ)
       → readIn faceRows faceNames discRows discNames sideRows centerRows choiceRows drawnRows sampledRows (partTable (m .parts) (m .outlines)) (preparedChecked (m .bodies) (m .pairs .count) sideRows q w x y z) (m .pairs .count) q (allRows faceRows faceNames discRows discNames sideRows centerRows choiceRows drawnRows (partTable (m .parts) (m .outlines)) q margin (m .pairs .count))

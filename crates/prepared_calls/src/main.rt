@@ -1,12 +1,17 @@
 // Prints the readings of sheet texts by the prepared call, each as a number: X,number,place where a text is refused (document 01's 1 to 11 and 13, with 256 rows lent), else `accepted`, how many rows there are, and
-// a number that all of the reading goes into: every row with its pieces, gap, normal and point, all gradients, all slips, of each pair the overlaps and the bearing. The texts come from standard input, each behind its
+// a number that all of the reading goes into: every row with its pieces, gap, normal and point, all gradients, all slips, of each pair the overlaps and the bearing. Each pair's overlap is also asked for by itself,
+// and stands as -1 where the two differ. The texts come from standard input, each behind its
 // length in six decimal digits and a newline. The files stdin and stdout beside this program were made by `oracle/readings store`: the answers are the Rust's.
 ghost use Prim.Native.Nat.{_≤_};
 use bodies::Bodies;
 use bodies::Checked;
 use bodies::Problem;
 use bodies::pose::Lent;
+use bodies::pose::Placement;
+use bodies::pose::Pose;
+use bodies::pose::Posed;
 use geometry::Point;
+use mechanism::FloatAnswer;
 use mechanism::Mechanism;
 use mechanism::Pairs;
 use mechanism::Parts;
@@ -16,6 +21,7 @@ use mechanism::bearing::MaybeBearing;
 use mechanism::bearing::MaybeSlope;
 use mechanism::rows::Place;
 use mechanism::rows::Value;
+use overlap::prepared::pair_overlap;
 use reading::PairReading;
 use reading::Reading;
 use reading::prepared::read_in;
@@ -169,6 +175,72 @@ fn entries_of(n: usize, coords: usize) -> usize {
 
 // ---- a reading
 
+// A number that was read twice; -1 where the second answer is not that number.
+fn agreed(x: f64, a: FloatAnswer) -> f64 {
+    match a {
+        FloatAnswer::IsFloat(y) => {
+            if ieee::bits::pattern(x) == ieee::bits::pattern(y) {
+                x
+            } else {
+                -1.0
+            }
+        }
+        FloatAnswer::NoFloat(_) => -1.0,
+    }
+}
+
+fn with_overlap(p: PairReading, a: FloatAnswer) -> PairReading {
+    let bearing = p.bearing;
+    PairReading {
+        overlap: agreed(p.overlap, a),
+        face_overlap: p.face_overlap,
+        bearing,
+    }
+}
+
+// The reading, its overlaps held to those that `pair_overlap` gives.
+fn asked(
+    r: Reading,
+    bodies: Bodies,
+    drawn: &[PointRow],
+    sampled: &[PointRow],
+    parts: &[PartRow],
+    sides: &[SideRow],
+    centers: &[PointRow],
+    choices: &[ChoiceRow],
+    q: Pose,
+) -> Reading {
+    let checked = r.checked;
+    let n = r.pairs;
+    let mut pair = r.pair;
+    let mut i: usize = 0;
+    while i < 16 {
+        if i < n {
+            let a = pair_overlap(
+                bodies,
+                drawn,
+                sampled,
+                parts,
+                sides,
+                centers,
+                choices,
+                n,
+                q,
+                i,
+            );
+            let p = pair[i];
+            pair[i] = with_overlap(p, a);
+        }
+        i += 1;
+    }
+    Reading {
+        checked,
+        count: r.count,
+        pairs: n,
+        pair,
+    }
+}
+
 fn print_accepted(
     r: Reading,
     places: &[Place],
@@ -228,9 +300,21 @@ fn print_reading(
         &mut grad,
         &mut slip,
     );
+    let posed = bodies.pose(q);
+    let a = asked(
+        r,
+        bodies,
+        drawn,
+        sampled,
+        parts,
+        sides,
+        centers,
+        choices,
+        posed.pose,
+    );
     let c = r.checked;
     match c {
-        Checked::Accepted => print_accepted(r, &places, &values, &grad, &slip, bodies.coords),
+        Checked::Accepted => print_accepted(a, &places, &values, &grad, &slip, bodies.coords),
         Checked::Refused(p) => print_problem(p),
     }
 }

@@ -8,6 +8,7 @@ use bodies::pose::Lent;
 use bodies::pose::Placement;
 use bodies::pose::Pose;
 use bodies::pose::Posed;
+use mechanism::FloatAnswer;
 use mechanism::Mechanism;
 use mechanism::Pairs;
 use mechanism::Parts;
@@ -15,7 +16,7 @@ use mechanism::bearing::Bearing;
 use mechanism::bearing::MaybeBearing;
 use mechanism::rows::Place;
 use mechanism::rows::Value;
-use overlap::prepared::pair_overlap_in;
+use overlap::prepared::pair_overlap;
 use reading::PairReading;
 use reading::Reading;
 use reading::prepared::read_in;
@@ -135,9 +136,17 @@ fn next_pair(pair: usize, n: usize) -> usize {
     if next < n { next } else { 0 }
 }
 
+fn number(a: FloatAnswer) -> f64 {
+    match a {
+        FloatAnswer::IsFloat(x) => x,
+        FloatAnswer::NoFloat(_) => 0.0,
+    }
+}
+
 // The sum of so many overlaps, pair after pair.
 fn overlaps_of(
     turns: usize,
+    bodies: Bodies,
     sides: &[SideRow],
     centers: &[PointRow],
     choices: &[ChoiceRow],
@@ -151,7 +160,19 @@ fn overlaps_of(
     let mut pair: usize = 0;
     let mut k: usize = 0;
     while k < turns {
-        sum = sum + pair_overlap_in(drawn, sampled, parts, sides, centers, choices, q, pair);
+        let a = pair_overlap(
+            bodies,
+            drawn,
+            sampled,
+            parts,
+            sides,
+            centers,
+            choices,
+            pairs,
+            q,
+            pair,
+        );
+        sum = sum + number(a);
         pair = next_pair(pair, pairs);
         k += 1;
     }
@@ -209,6 +230,7 @@ fn serve(
         if what == 1 {
             print_sum(overlaps_of(
                 turns,
+                bodies,
                 sides,
                 centers,
                 choices,

@@ -5,16 +5,19 @@ use Rattle.reading_times.proofs.overlaps_of.Statement.{statement}
 use Rattle.reading_times.proofs.overlaps_of.Tie as tie
 
 abbrev Inv-loop : tie.InvT-loop
-Inv-loop turns sides centers choices drawn sampled parts pairs q sum₀ pair₀ k₀ sum pair k = k ≤ turns
+Inv-loop turns bodies sides centers choices drawn sampled parts pairs q sum₀ pair₀ k₀ sum pair k = k ≤ turns
 
 abbrev μ-loop : tie.MeasureT-loop
-μ-loop turns sides centers choices drawn sampled parts pairs q sum₀ pair₀ k₀ sum pair k = turns - k
+μ-loop turns bodies sides centers choices drawn sampled parts pairs q sum₀ pair₀ k₀ sum pair k = turns - k
 
 loop-holds : tie.Need-loop-holds Inv-loop μ-loop
 loop-holds c = omega arith
 
-pair-overlap-in-requires : tie.Need-pair-overlap-in-requires Inv-loop μ-loop
-pair-overlap-in-requires c κs = search needs
+pair-overlap-requires : tie.Need-pair-overlap-requires Inv-loop μ-loop
+pair-overlap-requires c κs = search needs
+
+number-requires : tie.Need-number-requires Inv-loop μ-loop
+number-requires c κs = search needs
 
 next-pair-requires : tie.Need-next-pair-requires Inv-loop μ-loop
 next-pair-requires c κs = search needs
@@ -38,7 +41,8 @@ overlaps-of-spec =
     Inv-loop
     μ-loop
     loop-holds
-    pair-overlap-in-requires
+    pair-overlap-requires
+    number-requires
     next-pair-requires
     add-k
     loop-less
