@@ -7,7 +7,7 @@ use lib.ListN.{getD}
 use lib.Ieee.{Float, nan, lt, le, eq, neg}
 use Rattle.laws.specs.Lists.{foldl, flat, any}
 use Rattle.ieee.specs.Consts.{zeroF, oneF, halfF, flatWithin}
-use Rattle.ieee.specs.Num.{absOf, sameOf}
+use Rattle.ieee.specs.Num.{absOf}
 use Rattle.ieee.specs.Operators.{_⊕_, _⊗_, _⊘_}
 use Rattle.ieee.specs.Root.{rootOf}
 use Rattle.ieee.specs.TotalOrder.{totalOrder}
@@ -18,7 +18,7 @@ use Rattle.geometry.specs.declared.MaybeDir.the-variants.{SomeDir, NoDir}
 use Rattle.geometry.specs.declared.Point.{Point}
 use Rattle.geometry.specs.declared.signed.Disc.{Disc}
 use Rattle.geometry.specs.declared.signed.Face.{Face}
-use Rattle.mechanism.specs.Check.{callChecked}
+use Rattle.mechanism.specs.Check.{callChecked, samePoint}
 use Rattle.mechanism.specs.Description.{pairAt}
 use Rattle.mechanism.specs.Piece.{isDisc, letterOf, samePiece}
 use Rattle.bodies.specs.Pose.{placementAt, rotateOf, worldOf, poseFits}
@@ -68,10 +68,7 @@ endsIf piece d = cond (samePiece (d .piece) piece) (startOfDisc (d .disc) ∷ en
 unfoldable pub endsOf : Piece → List PlacedDisc → List Point
 endsOf piece ds = flat (endsIf piece) ds
 
--- bit for bit
-abbrev pub samePoint : Point → Point → Bool
-samePoint p q = sameOf (p .x) (q .x) && sameOf (p .y) (q .y)
-
+-- one of a face's ends is a point, bit for bit
 abbrev pub atEnd : Face → Point → Bool
 atEnd f e = samePoint e (f .a) || samePoint e (f .b)
 

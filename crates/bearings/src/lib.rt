@@ -10,7 +10,7 @@ ghost use Rattle.mechanism.specs.Piece.{samePiece};
 ghost use Rattle.mechanism.specs.Rows.{pairIn, gapIn};
 ghost use Rattle.candidates.specs.Candidates.{facesIn, discsIn};
 ghost use Rattle.governing.specs.Governing.{governingOf, recordsIn};
-ghost use Rattle.bearings.specs.Bearing.{samePoint, atEnd, meetsRow, spotOf, endsOf, firstOf, faceNamed, facingOf, reachOf, scoreOf, bestFace, runOf, alongside, slopeAlong, slopeOf, slopeBetween, spans, isLevel, isFlat, bearsAs, stopAt, stopUnder, towardOf, keyAt, cornerBearing, edgeOn, edgeBearing, bearingOf, governedBearing, rowAt};
+ghost use Rattle.bearings.specs.Bearing.{atEnd, meetsRow, spotOf, endsOf, firstOf, faceNamed, facingOf, reachOf, scoreOf, bestFace, runOf, alongside, slopeAlong, slopeOf, slopeBetween, spans, isLevel, isFlat, bearsAs, stopAt, stopUnder, towardOf, keyAt, cornerBearing, edgeOn, edgeBearing, bearingOf, governedBearing, rowAt};
 ghost use Rattle.bearings.specs.declared.MaybeFace.the-variants.{SomeFace};
 
 pub mod prepared;
@@ -32,7 +32,6 @@ use geometry::signed::sub;
 use governing::MaybeRow;
 use governing::governing_in;
 use ieee::num::abs;
-use ieee::num::same;
 use ieee::order::total_order;
 use ieee::root::root;
 use material::Spot;
@@ -40,6 +39,7 @@ use mechanism::bearing::Bearing;
 use mechanism::bearing::HowItBears;
 use mechanism::bearing::MaybeBearing;
 use mechanism::bearing::MaybeSlope;
+use mechanism::check::same_point;
 use mechanism::features::Feature;
 use mechanism::features::Piece;
 use mechanism::features::letter;
@@ -87,12 +87,6 @@ fn same_piece(p: Piece, r: Piece) -> bool
     ensures { λ t. ⌜ t ≡ samePiece p r ⌝ }
 {
     (letter(p) == letter(r)) & ((part(p) == part(r)) & (seg(p) == seg(r)))
-}
-
-fn same_point(p: Point, q: Point) -> bool
-    ensures { λ r. ⌜ r ≡ samePoint p q ⌝ }
-{
-    same(p.x, q.x) & same(p.y, q.y)
 }
 
 fn at_end(f: Face, e: Point) -> bool

@@ -27,7 +27,8 @@ pub struct EntriesAnswer {
     pub entry: [f64; 16],
 }
 
-fn least(a: usize, b: usize) -> usize
+// The smaller of two numbers.
+pub fn least(a: usize, b: usize) -> usize
     ensures { λ r. ⌜ r ≡ lesser a b ⌝ }
 {
     if a < b { a } else { b }

@@ -3,7 +3,7 @@ ghost use mathlib.Core.Path.{_≡_};
 ghost use Prim.Native.Nat.{_≤_};
 ghost use lib.ListN.{length, take};
 ghost use Rattle.mechanism.specs.Rows.{pairIn, gapIn, rowIn};
-ghost use Rattle.governing.specs.Governing.{governingOf, gapOf, lesser, recordsIn, rowEntries};
+ghost use Rattle.governing.specs.Governing.{governingOf, gapOf, recordsIn, rowEntries};
 ghost use Rattle.row_records.specs.Records.{governingRecord, gapRecord, recordsOf};
 ghost use Rattle.row_exports.specs.Numbers.{numberOr, gapOr, refusedBy, entriesOver, surfacesOf};
 use bodies::Checked;
@@ -12,6 +12,7 @@ use governing::MaybeGap;
 use governing::MaybeRow;
 use governing::gap_in;
 use governing::governing_in;
+use governing::least;
 use governing::row_entries;
 use mechanism::rows::Place;
 use mechanism::rows::Row;
@@ -72,12 +73,6 @@ pub struct Records {
     row: [Row; 64],
 }
 
-fn fewer(a: usize, b: usize) -> usize
-    ensures { λ r. ⌜ r ≡ lesser a b ⌝ }
-{
-    if a < b { a } else { b }
-}
-
 // The first n rows of numbers as records.
 fn records_by_value(places: &[Place], values: &[Value], n: usize) -> Records
     requires { ⌜ (n ≤ length (now places)) × (n ≤ length (now values)) × (n ≤ 64) ⌝ }
@@ -118,7 +113,7 @@ pub extern "C" fn sewqirun_governing_record(
 ) -> usize
     ensures { λ r. ⌜ r ≡ numberOr (governingRecord (recordsOf (now (places .entry)) (now (values .entry)) (recordsIn 64 (length (now (places .entry))) (length (now (values .entry))))) pair) 64 ⌝ }
 {
-    let n = fewer(64, fewer(places.len(), values.len()));
+    let n = least(64, least(places.len(), values.len()));
     let h = records_by_value(places, values, n);
     let found = governing_of(h, n, pair);
     number_or(found, 64)
@@ -134,7 +129,7 @@ pub extern "C" fn sewqirun_gap_record(
 ) -> f64
     ensures { λ r. ⌜ r ≡ gapOr (gapRecord (recordsOf (now (places .entry)) (now (values .entry)) (recordsIn 64 (length (now (places .entry))) (length (now (values .entry))))) pair) x ⌝ }
 {
-    let n = fewer(64, fewer(places.len(), values.len()));
+    let n = least(64, least(places.len(), values.len()));
     let h = records_by_value(places, values, n);
     let found = gap_of(h, n, pair);
     gap_or(found, x)

@@ -5,7 +5,7 @@ ghost use lib.ListN.{length};
 ghost use lib.Seq.{sets};
 ghost use Rattle.mechanism.specs.Description.{pairAt};
 ghost use Rattle.bearings.specs.Bearing.{bearingFrom, rowAt};
-ghost use Rattle.governing.specs.Governing.{lesser, recordsIn};
+ghost use Rattle.governing.specs.Governing.{recordsIn};
 ghost use Rattle.row_records.specs.Records.{governingRecord, gapRecord, stepOf, bestOf, rowNumber, rowGap, bearingAt, bearingBest, bearingRecord, recordsOf, recordsFit};
 use bearings::BearingAnswer;
 use bearings::bearing_of;
@@ -14,6 +14,7 @@ use bodies::Checked;
 use bodies::pose::Pose;
 use governing::MaybeGap;
 use governing::MaybeRow;
+use governing::least;
 use mechanism::Mechanism;
 use mechanism::Outlines;
 use mechanism::Pairs;
@@ -163,12 +164,6 @@ pub fn bearing(m: Mechanism, q: Pose, rows: &[Row], pair: usize) -> BearingAnswe
 
 // ---- rows in lent arrays as records
 
-fn fewer(a: usize, b: usize) -> usize
-    ensures { λ r. ⌜ r ≡ lesser a b ⌝ }
-{
-    if a < b { a } else { b }
-}
-
 fn record_at(places: &[Place], values: &[Value], i: usize) -> Row
     requires { ⌜ (i < length (now places)) × (i < length (now values)) ⌝ }
     ensures { λ r. ⌜ r ≡ rowAt (now (places .entry)) (now (values .entry)) i ⌝ }
@@ -191,7 +186,7 @@ fn put_records(out: &mut [Row], places: &[Place], values: &[Value], n: usize)
 pub fn records(out: &mut [Row], places: &[Place], values: &[Value], n: usize) -> usize
     ensures { λ r. ⌜ (r ≡ recordsFit n (length (now (places .entry))) (length (now (values .entry))) (length (now (out .entry)))) × (now (out .exit) ≡ sets (now (out .entry)) 0 (recordsOf (now (places .entry)) (now (values .entry)) (recordsFit n (length (now (places .entry))) (length (now (values .entry))) (length (now (out .entry)))))) ⌝ }
 {
-    let k = fewer(fewer(n, fewer(places.len(), values.len())), out.len());
+    let k = least(least(n, least(places.len(), values.len())), out.len());
     put_records(out, places, values, k);
     k
 }

@@ -6,17 +6,17 @@ use Rattle.row_exports.proofs.Few.{few, all-there, rows-are}
 use Rattle.row_exports.proofs.sewqirun_governing_record.Statement.{statement}
 use Rattle.row_exports.proofs.sewqirun_governing_record.Tie as tie
 
-fewer-requires : tie.Need-fewer-requires
-fewer-requires c κs = search needs
+least-requires : tie.Need-least-requires
+least-requires c κs = search needs
 
-fewer-requires-2 : tie.Need-fewer-requires-2
-fewer-requires-2 c κs = search needs
+least-requires-2 : tie.Need-least-requires-2
+least-requires-2 c κs = search needs
 
 records-by-value-requires : tie.Need-records-by-value-requires
-records-by-value-requires c κs = let s = c .before .before in all-there (s .args .places .now) (s .args .values .now) _ _ (c .before .fewer .ensures) (c .fewer2 .ensures)
+records-by-value-requires c κs = let s = c .before .before in all-there (s .args .places .now) (s .args .values .now) _ _ (c .before .least .ensures) (c .least2 .ensures)
 
 governing-of-requires : tie.Need-governing-of-requires
-governing-of-requires c κs = few (c .before .before .fewer .result) (c .before .fewer2 .result) (c .before .fewer2 .ensures)
+governing-of-requires c κs = few (c .before .before .least .result) (c .before .least2 .result) (c .before .least2 .ensures)
 
 number-or-requires : tie.Need-number-or-requires
 number-or-requires c κs = search needs
@@ -25,15 +25,15 @@ returns : tie.Need-returns
 returns c =
     let s = c .before .before .before .before .before in
     let found = c .before .before .records-by-value in
-    let h = rows-are (s .args .places .now) (s .args .values .now) (c .before .before .before .before .fewer .result) (c .before .before .before .fewer2 .result) (c .before .before .before .before .fewer .ensures) (c .before .before .before .fewer2 .ensures) (found .result .row) (found .ensures) in
+    let h = rows-are (s .args .places .now) (s .args .values .now) (c .before .before .before .before .least .result) (c .before .before .before .least2 .result) (c .before .before .before .before .least .ensures) (c .before .before .before .least2 .ensures) (found .result .row) (found .ensures) in
     c .number-or .ensures ∙ ap (λ a. numberOr a 64) (c .before .governing-of .ensures ∙ ap (λ l. governingRecord l (s .args .pair)) h)
 
 pub sewqirun-governing-record-spec : {M : Type 1} → statement M
 sewqirun-governing-record-spec =
     tie.close
     (tie.spec
-    fewer-requires
-    fewer-requires-2
+    least-requires
+    least-requires-2
     records-by-value-requires
     governing-of-requires
     number-or-requires

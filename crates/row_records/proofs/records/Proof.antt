@@ -1,4 +1,4 @@
--- `row_records::records` meets its contract: a walk of its MIR, by hand. Three calls of `fewer` count the records that fit; the lent slices go on to `put_records`, and are not had again. Of both it knows the contracts alone.
+-- `row_records::records` meets its contract: a walk of its MIR, by hand. Three calls of `least` count the records that fit; the lent slices go on to `put_records`, and are not had again. Of both it knows the contracts alone.
 -- Assumes nothing.
 use mathlib.Core.Path.{_≡_, refl, ap, _∙_}
 use Prim.Native.Nat.{ℕ, _<_, _≤_, _^_}
@@ -44,10 +44,10 @@ use Rattle.mechanism.proofs.rows.Row as T
 use Rattle.governing.specs.Governing.{lesser}
 use Rattle.row_records.specs.Records.{recordsOf, recordsFit}
 use Rattle.row_records.proofs.Put.{fit-is, fit-few}
-use Rattle.row_records.proofs.fewer as fw
-use Rattle.row_records.proofs.fewer.Symbol as fw-def
-use Rattle.row_records.proofs.fewer.Symbol.{name as #row-records·fewer}
-use Rattle.row_records.proofs.fewer.Met as fw-thm
+use Rattle.governing.proofs.least as fw
+use Rattle.governing.proofs.least.Symbol as fw-def
+use Rattle.governing.proofs.least.Symbol.{name as #governing·least}
+use Rattle.governing.proofs.least.Met as fw-thm
 use Rattle.row_records.proofs.put_records as pr
 use Rattle.row_records.proofs.put_records.Symbol as pr-def
 use Rattle.row_records.proofs.put_records.Symbol.{name as #row-records·put-records}
@@ -102,7 +102,7 @@ module _ {M : Type 1} (𝓤 : URA M) (H : Heap 𝓤) (A : Atoms 𝓤) (mem : Mem
   said-few a b r = exE 𝓤 _ (λ ws. snd∗ 𝓤 (sem 𝓤 H A (lasts fw.ended tt (a, (b, tt)) ws)) (fact 𝓤 (r ≡ lesser a b)))
 
 module _ {M : Type 1} (𝓤 : URA M) (H : Heap 𝓤) (A : Atoms 𝓤) (W : Given 𝓤 H A) (mem : Memory → SProp 𝓤) (run : Routine → Fun 𝓤) where
-  -- what `fewer` asks: two numbers, which are made anew
+  -- what `least` asks: two numbers, which are made anew
   goes-few : (a b : ℕ) → a < 2 ^ 64 → b < 2 ^ 64 → ent 𝓤 (emp 𝓤) (FewC 𝓤 H A mem run .pre (to-few 𝓤 H A mem run a b))
   goes-few a b ga gb =
       qed W [] ∵ nothing ! $ owned ! usize (Is usize) (uint-makes 𝓤 H A W w64) b _ (refl, gb) $ fjoin ! $ owned ! usize (Is usize) (uint-makes 𝓤 H A W w64) a _ (refl, ga) $ fjoin ! $ nothing ! $ join ! $ frame ! $ done !
@@ -167,7 +167,7 @@ module _ {M : Type 1} (𝓤 : URA M) (H : Heap 𝓤) (A : Atoms 𝓤) (W : Given
         nothing ! $ owned ! usize (Is usize) (uint-makes 𝓤 H A W w64) n _ (refl, n-fits) $ fjoin ! $ nothing ! $ fjoin ! $ nothing ! $ fjoin ! $ move ! (1 ∷ 0 ∷ []) $ fjoin ! $ frame ! $
         owned ! usize (Is usize) (uint-makes 𝓤 H A W w64) k _ (refl, k-fits) $ done !
 
-  module _ (C : Calls 𝓤 H) (Λ : Loops 𝓤 H) (fm : FmC 𝓤 H (W .laws) C) (known-few : Triple 𝓤 (C #row-records·fewer) (FewC 𝓤 H A mem run)) (known-put : Triple 𝓤 (C #row-records·put-records) (PutC 𝓤 H A mem run)) where
+  module _ (C : Calls 𝓤 H) (Λ : Loops 𝓤 H) (fm : FmC 𝓤 H (W .laws) C) (known-few : Triple 𝓤 (C #governing·least) (FewC 𝓤 H A mem run)) (known-put : Triple 𝓤 (C #row-records·put-records) (PutC 𝓤 H A mem run)) where
     module _ (l₀ l₁ l₂ l₃ l₄ l₅ l₆ l₇ l₈ l₉ l₁₀ l₁₁ l₁₂ l₁₃ : ℕ) where
       abbrev En : Env 𝓤 H
       En = (word, l₀) ∷ (slice, l₁) ∷ (slice-p, l₂) ∷ (slice-v, l₃) ∷ (word, l₄) ∷ (word, l₅) ∷ (word, l₆) ∷ (word, l₇) ∷ (word, l₈) ∷ (word, l₉) ∷ (word, l₁₀) ∷ (tyUnit, l₁₁) ∷ (ref-lent, l₁₂) ∷ (slice-lent, l₁₃) ∷ []
@@ -232,7 +232,7 @@ module _ {M : Type 1} (𝓤 : URA M) (H : Heap 𝓤) (A : Atoms 𝓤) (W : Given
         rewrite ! 16 (λ (v : Val). ‵ (fat fullShare word l₅ 0 v)) (ap only (is₃ .0)) refl $
         stores l₀ l₁ l₂ l₃ l₄ l₅ l₆ l₇ l₈ l₉ l₁₀ l₁₁ l₁₂ l₁₃ k r₂ r₁ lp lv lo (is₃ .1) (fit-few n lp lv lo r₁ r₂ k e₁ e₂ e₃) (fit-is n lp lv lo r₁ r₂ k e₁ e₂ e₃)))))))))))))))))))))))))))
 
-module _ {M : Type 1} (𝓤 : URA M) (H : Heap 𝓤) (A : Atoms 𝓤) (W : Given 𝓤 H A) (mem : Memory → SProp 𝓤) (run : Routine → Fun 𝓤) (𝓣 : Tables 𝓤 H) (known-few : Triple 𝓤 (𝓣 .C #row-records·fewer) (FewC 𝓤 H A mem run)) (known-put : Triple 𝓤 (𝓣 .C #row-records·put-records) (PutC 𝓤 H A mem run)) where
+module _ {M : Type 1} (𝓤 : URA M) (H : Heap 𝓤) (A : Atoms 𝓤) (W : Given 𝓤 H A) (mem : Memory → SProp 𝓤) (run : Routine → Fun 𝓤) (𝓣 : Tables 𝓤 H) (known-few : Triple 𝓤 (𝓣 .C #governing·least) (FewC 𝓤 H A mem run)) (known-put : Triple 𝓤 (𝓣 .C #row-records·put-records) (PutC 𝓤 H A mem run)) where
   walks : Walks 𝓤 H A f.ended stayed (WpFn 𝓤 H (𝓣 .C) (𝓣 .Λ) code.function) (f.clauses 𝓤 H A mem run)
   walks = walked 𝓤 H A f.ended stayed (f.clauses 𝓤 H A mem run) (WpFn 𝓤 H (𝓣 .C) (𝓣 .Λ) code.function) (λ κs. (slice-vals, (slice-vals, (slice-vals, (uint-vals w64, tt)))))
       (λ κs. (mut-slice-tells (named 0) (κs .0) T.the-row, (shr-slice-tells (named 1) (κs .1 .0) Pt, (shr-slice-tells (named 2) (κs .1 .1 .0) Vt, (uint-tells w64, tt)))))
@@ -251,5 +251,5 @@ records-spec 𝓤 H 𝓜 𝓖 𝓡 =
     entered 𝓤 H (tripleOf 𝓤 H (𝓖 .A) f.signature (f.spec 𝓤 H (𝓖 .A) (𝓜 .mem) (𝓡 .run)))
     (tables 𝓤 H 𝓜 𝓡 code.env .C) (tables 𝓤 H 𝓜 𝓡 code.env .Λ) #row-records·records code.function (code.unfolded 𝓤 H 𝓜 𝓡)
     (meets 𝓤 H (𝓖 .A) (givenOf 𝓤 H 𝓜 𝓖) (𝓜 .mem) (𝓡 .run) (tablesOf 𝓤 H 𝓜 (tables 𝓤 H 𝓜 𝓡 code.env))
-    (cited 𝓤 H (FewC 𝓤 H (𝓖 .A) (𝓜 .mem) (𝓡 .run)) 𝓜 𝓡 code.env #row-records·fewer fw-def.routine code.calls-row-records·fewer (fw-thm.met 𝓤 H 𝓜 𝓖 𝓡))
+    (cited 𝓤 H (FewC 𝓤 H (𝓖 .A) (𝓜 .mem) (𝓡 .run)) 𝓜 𝓡 code.env #governing·least fw-def.routine code.calls-governing·least (fw-thm.met 𝓤 H 𝓜 𝓖 𝓡))
     (cited 𝓤 H (PutC 𝓤 H (𝓖 .A) (𝓜 .mem) (𝓡 .run)) 𝓜 𝓡 code.env #row-records·put-records pr-def.routine code.calls-row-records·put-records (pr-thm.met 𝓤 H 𝓜 𝓖 𝓡)))
