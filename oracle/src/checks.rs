@@ -227,7 +227,7 @@ fn refusal(problem: Problem) -> Refusal {
 
 /// The sum of the pairs' row bounds, from the faces and discs that the Rust
 /// read.
-fn row_bound(mechanism: &Mechanism) -> usize {
+pub fn row_bound(mechanism: &Mechanism) -> usize {
     let pairs = mechanism.pairs().iter().zip(&mechanism.features);
     pairs
         .map(|(pair, sides)| {

@@ -1,6 +1,7 @@
 //! Readings of the original, for the texts that the program reading_calls reads.
 //!   readings answers       the original's readings for each text on standard input, as that program prints them
 //!   readings digests       the same as one number each, as the program prepared_calls prints them
+//!   readings room          the room that `rows` asks for, as the program room_calls prints it
 //!   readings tally         how many accepted texts on standard input have what
 //!   readings records SEED  built with `--cfg records`: the rows of each accepted text on standard input, and made-up ones, through the static library `row_exports`; last line 'N equal, M different', in texts
 mod checks;
@@ -311,14 +312,27 @@ fn answers(of: fn(&[u8]) -> String) {
     }
 }
 
+// The fewest row records, and the fewest gradients and slips, that are not too few.
+fn room(text: &[u8]) -> String {
+    match read(text) {
+        Ok(r) => {
+            let (bound, coords) = (checks::row_bound(&r.mechanism), r.mechanism.coords().len());
+            let columns = bound * coords;
+            format!("{bound},{bound},{columns},{columns},kept\n")
+        }
+        Err(refusal) => format!("X,{},{}\n", refusal.number, refusal.place),
+    }
+}
+
 fn main() {
     let args: Vec<String> = std::env::args().skip(1).collect();
     match args.iter().map(String::as_str).collect::<Vec<_>>().as_slice() {
         ["answers"] => answers(answer),
         ["digests"] => answers(digest),
+        ["room"] => answers(room),
         ["tally"] => tally(),
         #[cfg(records)]
         ["records", seed] => records(seed.parse().expect("a seed")),
-        _ => eprintln!("usage: readings answers, readings digests, readings tally"),
+        _ => eprintln!("usage: readings answers, readings digests, readings room, readings tally"),
     }
 }
