@@ -318,7 +318,7 @@ fn room(text: &[u8]) -> String {
         Ok(r) => {
             let (bound, coords) = (checks::row_bound(&r.mechanism), r.mechanism.coords().len());
             let columns = bound * coords;
-            format!("{bound},{bound},{columns},{columns},kept\n")
+            format!("accepted,{bound},{bound},{columns},{columns},kept\n")
         }
         Err(refusal) => format!("X,{},{}\n", refusal.number, refusal.place),
     }

@@ -51,7 +51,7 @@ discsAt s q = map (placeDisc (placementAt q (s .body))) (discsIn s)
 abbrev pub centerIn : SideFeatures → Pose → Point
 centerIn s q = worldOf (placementAt q (s .body)) (s .center .point)
 
--- ---- the candidates of a pair
+-- ---- the candidates of a pair (a term of document 01: its readings that pass sectors, face ends and the material check, before hiding and margin)
 -- of two sides whose faces and discs stand in the world
 abbrev pub candidatesIn : Material → Material → List PlacedFace → List PlacedDisc → List PlacedFace → List PlacedDisc → List Candidate
 candidatesIn ma mb facesA discsA facesB discsB = each (readAB mb) discsA facesB ++ (each (readBA ma) discsB facesA ++ each readDiscs discsA discsB)

@@ -1,13 +1,15 @@
 -- Small faces, computed from the definitions. Side A's face runs from (0, 0) to (1, 0) and looks down, so its material lies above it. Assumes nothing.
 use mathlib.Core.Path.{_≡_, refl}
+use mathlib.Core.Bool.{true, false}
 use mathlib.Core.List.{[], _∷_}
-use lib.Ieee.{Float, binary64, ofBits, add, sub, mul, div, lt, le, neg, isNan}
+use lib.Ieee.{Float, binary64, ofBits, toBits, add, sub, mul, div, lt, le, eq, neg, isNan, nan}
 use Rattle.laws.specs.Lists.{foldl}
 use Rattle.ieee.specs.Consts.{zeroF, oneF, twoF}
+use Rattle.ieee.specs.Num.{sameOf}
 use Rattle.geometry.specs.declared.Point.{Point}
 use Rattle.geometry.specs.declared.signed.Face.{Face}
 use Rattle.bodies.specs.declared.pose.Placement.{Placement}
-use Rattle.faces.specs.Faces.{withinOf, overOf, facesOverlap}
+use Rattle.faces.specs.Faces.{withinOf, overOf, facesOverlap, sameOverlap}
 
 abbrev quarterF : Float
 quarterF = ofBits binary64 0x3fd0_0000_0000_0000
@@ -51,3 +53,8 @@ apart = refl
 pub no-length : facesOverlap (under zeroF ∷ []) (raised zeroF) (over threeQuartersF quarterF ∷ []) (raised quarterF) ≡ zeroF
 unfolding facesOverlap foldl ofBits add sub mul le isNan
 no-length = refl
+
+-- in a comparison both zeros are alike, which bit for bit they are not, and so are two NaNs
+pub zeros-alike : (sameOverlap zeroF (neg zeroF) ≡ true) × (sameOf zeroF (neg zeroF) ≡ false) × (sameOverlap nan nan ≡ true) × (sameOverlap zeroF oneF ≡ false)
+unfolding ofBits toBits neg eq
+zeros-alike = (refl, refl, refl, refl)

@@ -9,6 +9,7 @@ use bodies::Problem;
 use bodies::pose::Placement;
 use bodies::pose::Pose;
 use bodies::pose::Posed;
+use faces::plain_zero;
 use mechanism::FloatAnswer;
 use mechanism::Mechanism;
 use mechanism::Pairs;
@@ -60,11 +61,7 @@ fn print_answer(a: FloatAnswer) {
 fn print_faces(a: FloatAnswer) {
     match a {
         FloatAnswer::IsFloat(x) => {
-            if x == 0.0 {
-                float(0.0);
-            } else {
-                float(x);
-            }
+            float(plain_zero(x));
         }
         FloatAnswer::NoFloat(p) => {
             problem(p);

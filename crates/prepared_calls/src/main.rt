@@ -10,6 +10,7 @@ use bodies::pose::Lent;
 use bodies::pose::Placement;
 use bodies::pose::Pose;
 use bodies::pose::Posed;
+use faces::plain_zero;
 use geometry::Point;
 use mechanism::FloatAnswer;
 use mechanism::Mechanism;
@@ -148,10 +149,7 @@ fn with_pair(h: u64, p: PairReading) -> u64 {
     let b = p.bearing;
     let d = with_float(h, p.overlap);
     // Of `face_overlap` both zeros are alike.
-    if p.face_overlap == 0.0 {
-        return with_bearing(with_float(d, 0.0), b);
-    }
-    with_bearing(with_float(d, p.face_overlap), b)
+    with_bearing(with_float(d, plain_zero(p.face_overlap)), b)
 }
 
 fn with_pairs(h: u64, r: Reading) -> u64 {

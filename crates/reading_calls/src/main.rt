@@ -13,6 +13,7 @@ use bodies::Problem;
 use bodies::pose::Placement;
 use bodies::pose::Pose;
 use bodies::pose::Posed;
+use faces::plain_zero;
 use geometry::Dir;
 use geometry::Point;
 use governing::EntriesAnswer;
@@ -189,11 +190,7 @@ fn print_rows(
 fn print_pair(p: PairReading) {
     float(p.overlap);
     // Of `face_overlap` both zeros are alike.
-    if p.face_overlap == 0.0 {
-        float(0.0);
-    } else {
-        float(p.face_overlap);
-    }
+    float(plain_zero(p.face_overlap));
     let b = p.bearing;
     print_bearing(b);
     io::write_all(1, b"\n");

@@ -32,7 +32,7 @@ module _ (gap : ℕ → Float) (decides : ℕ → Bool) (alike : ℕ → ℕ →
   abbrev pub shows : ℕ → Float → ℕ → Bool
   shows n m i = not (hidden n i) && within m (gap i)
 
-  -- of the n candidates those that are shown, in order
+  -- of the n candidates those that are shown, in order; a term of document 01: a candidate among a pair's rows is shown
   unfoldable pub shown : ℕ → Float → List ℕ
   shown n m = filterIn (shows n m) n 0
 

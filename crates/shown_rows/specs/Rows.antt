@@ -40,7 +40,7 @@ candidateAt cs i = getD cs i noCandidate
 abbrev pub gapAt : List Candidate → ℕ → Float
 gapAt cs i = candidateAt cs i .near .gap
 
--- one of the two pieces decides
+-- one of the two pieces decides; a term of document 01: the deciding piece is the corner, arc or centre that is read against a face
 abbrev pub decides : Candidate → Bool
 decides c = not (eqb (c .who) 0)
 
