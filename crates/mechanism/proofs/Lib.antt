@@ -1,3 +1,4 @@
 pub mod Worked
 pub mod Checks
 pub mod Drawn
+pub mod Ends

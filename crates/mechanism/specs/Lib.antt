@@ -1,5 +1,6 @@
 pub mod Description
 pub mod Check
+pub mod Ends
 pub mod Pose
 pub mod Piece
 pub mod Rows

@@ -2,9 +2,11 @@
 ghost use mathlib.Core.Path.{_≡_};
 ghost use mathlib.Core.Bool.{not};
 ghost use Prim.Native.Nat.{_+_, _≤_, _<_};
-ghost use Rattle.mechanism.specs.Description.{startOfPart, silhouetteLength, rangeLength, turnedLength};
-ghost use Rattle.bodies.specs.Check.{isAccepted};
-ghost use Rattle.mechanism.specs.Check.{sideOver, pairOver, partsOver, pairsOver, limitPassed, noDir, jointLacks, sweepLacks, segLacks, bodiesLack, partsLack, outlinesLack, directionMissing, pointFinite, samePoint, segOpen, outlineOpen, partChecked, partsChecked, partDraws, isWrong, withBody, withDrawn, sideEnd, sideBody, sidesChecked, pairsChecked, checkOf, callChecked, isOn, sideDrawn, pairDrawn, FewParts, FewPairs, Few};
+ghost use Rattle.mechanism.specs.Description.{partAt, startOfPart, silhouetteLength, rangeLength, turnedLength};
+ghost use lib.ListN.{length};
+ghost use Rattle.bodies.specs.Check.{isAccepted, firstRefused};
+ghost use Rattle.mechanism.specs.Ends.{HasEnds, rowOpen, endsOpen, endsChecked};
+ghost use Rattle.mechanism.specs.Check.{sideOver, pairOver, partsOver, pairsOver, limitPassed, noDir, jointLacks, sweepLacks, segLacks, bodiesLack, partsLack, outlinesLack, directionMissing, pointFinite, samePoint, partsChecked, partDraws, isWrong, withBody, withDrawn, sideEnd, sideBody, sidesChecked, pairsChecked, checkOf, callChecked, isOn, sideDrawn, pairDrawn, FewParts, FewPairs, Few};
 use super::Mechanism;
 use super::Outlines;
 use super::Pairs;
@@ -220,6 +222,9 @@ fn outlines_lack(o: Outlines, n: usize) -> bool
 
 // ---- 6 and 7, part by part: a part names no body; its outline is not finite or not closed
 
+// The two ends of a segment.
+type Ends = [f64; 4];
+
 fn point_finite(p: Point) -> bool
     ensures { λ r. ⌜ r ≡ pointFinite p ⌝ }
 {
@@ -233,46 +238,63 @@ pub fn same_point(p: Point, q: Point) -> bool
     same(p.x, q.x) & same(p.y, q.y)
 }
 
-// Whether a segment is not finite, or does not end where the next begins.
-fn is_open(s: Seg, next: Seg) -> bool
-    ensures { λ r. ⌜ r ≡ segOpen s next ⌝ }
+// Writes the ends of the first n segments.
+fn put_ends(ends: &mut [Ends], o: Outlines, n: usize)
+    requires { ⌜ (n ≤ 384) × (384 ≤ length (now ends)) ⌝ }
+    ensures { λ _. ⌜ HasEnds o n (now (ends .exit)) × (length (now (ends .exit)) ≡ length (now (ends .entry))) ⌝ }
 {
-    let a = s.start();
-    let b = s.end();
-    !((point_finite(a) & point_finite(b)) & same_point(b, next.start()))
+    let mut i: usize = 0;
+    while i < n {
+        let b = o.seg[i];
+        let s = b.seg;
+        let p = s.start();
+        let q = s.end();
+        ends[i] = [p.x, p.y, q.x, q.y];
+        i += 1;
+    }
+}
+
+// Whether a segment is not finite, or does not end where the next begins.
+fn is_open(r: Ends, next: Ends) -> bool
+    ensures { λ x. ⌜ x ≡ rowOpen r next ⌝ }
+{
+    let a = Point { x: r[0], y: r[1] };
+    let b = Point { x: r[2], y: r[3] };
+    let c = Point {
+        x: next[0],
+        y: next[1],
+    };
+    !((point_finite(a) & point_finite(b)) & same_point(b, c))
 }
 
 // Whether of the n segments from `at` on there are fewer than two, or one is open.
-fn outline_open(o: Outlines, at: usize, n: usize) -> bool
-    requires { ⌜ (at + n ≤ 384) × (n ≤ 48) ⌝ }
-    ensures { λ r. ⌜ r ≡ outlineOpen o at n ⌝ }
+fn outline_open(ends: &[Ends], at: usize, n: usize) -> bool
+    requires { ⌜ (at + n ≤ 384) × (n ≤ 48) × (384 ≤ length (now ends)) ⌝ }
+    ensures { λ r. ⌜ r ≡ endsOpen (now (ends .entry)) at n ⌝ }
 {
     if n < 2 {
         return true;
     }
     let mut i: usize = 0;
     while i < n {
-        let b = o.seg[at + i];
-        let s = b.seg;
         let k = (i + 1) % n;
-        let c = o.seg[at + k];
-        let t = c.seg;
+        let open = is_open(ends[at + i], ends[at + k]);
         i += 1;
-        if is_open(s, t) {
+        if open {
             return true;
         }
     }
     false
 }
 
-fn part_checked(bodies: usize, o: Outlines, p: Part, at: usize, i: usize) -> Checked
-    requires { ⌜ (at + p .segs ≤ 384) × (p .segs ≤ 48) ⌝ }
-    ensures { λ r. ⌜ r ≡ partChecked bodies o p at i ⌝ }
+fn part_checked(bodies: usize, ends: &[Ends], p: Part, at: usize, i: usize) -> Checked
+    requires { ⌜ (at + p .segs ≤ 384) × (p .segs ≤ 48) × (384 ≤ length (now ends)) ⌝ }
+    ensures { λ r. ⌜ r ≡ endsChecked bodies (now (ends .entry)) p at i ⌝ }
 {
     if bodies < p.body {
         return Checked::Refused(Problem::PartOnNoSuchBody { part: i });
     }
-    if outline_open(o, at, p.segs) {
+    if outline_open(ends, at, p.segs) {
         return Checked::Refused(Problem::OutlineNotClosed { part: i });
     }
     Checked::Accepted
@@ -287,16 +309,16 @@ fn is_refused(c: Checked) -> bool
     }
 }
 
-fn parts_checked(bodies: usize, p: Parts, o: Outlines) -> Checked
-    requires { ⌜ FewParts p ⌝ }
-    ensures { λ r. ⌜ r ≡ partsChecked bodies p o ⌝ }
+fn each_checked(bodies: usize, p: Parts, ends: &[Ends]) -> Checked
+    requires { ⌜ FewParts p × (384 ≤ length (now ends)) ⌝ }
+    ensures { λ r. ⌜ r ≡ firstRefused (λ i. endsChecked bodies (now (ends .entry)) (partAt p i) (startOfPart p i) i) (p .count) 0 ⌝ }
 {
     let n = p.count;
     let mut at: usize = 0;
     let mut i: usize = 0;
     while i < n {
         let q = p.part[i];
-        let c = part_checked(bodies, o, q, at, i);
+        let c = part_checked(bodies, ends, q, at, i);
         at += q.segs;
         i += 1;
         if is_refused(c) {
@@ -304,6 +326,16 @@ fn parts_checked(bodies: usize, p: Parts, o: Outlines) -> Checked
         }
     }
     Checked::Accepted
+}
+
+// The outlines are gone through once, whatever the number of parts.
+fn parts_checked(bodies: usize, p: Parts, o: Outlines) -> Checked
+    requires { ⌜ FewParts p ⌝ }
+    ensures { λ r. ⌜ r ≡ partsChecked bodies p o ⌝ }
+{
+    let mut ends = [[0.0; 4]; 384];
+    put_ends(&mut ends, o, segs_in_all(p));
+    each_checked(bodies, p, &ends)
 }
 
 // ---- 8 to 10, pair by pair

@@ -23,7 +23,6 @@ use Rattle.mechanism.specs.Rows.{placeRow, valueRow, gapIn}
 use Rattle.mechanism.specs.Rows as Rows
 use Rattle.bodies.specs.declared.Checked.{Checked}
 use Rattle.bodies.specs.declared.Checked.the-variants.{Accepted, Refused}
-use Rattle.mechanism.specs.declared.FloatAnswer.{FloatAnswer}
 use Rattle.mechanism.specs.declared.Mechanism.{Mechanism}
 use Rattle.bodies.specs.declared.Problem.{Problem}
 use Rattle.bodies.specs.declared.Problem.the-variants.{LimitPassed, PoseNotMatching, NoSuchThing, TooFewRows}

@@ -1,8 +1,6 @@
 // Prints how much room `rows` asks for, of sheet texts from standard input, each behind its length in six decimal digits and a newline: X,number,place where a text is refused (document 01's 1 to 11 and 13,
 // with 256 rows lent), else `accepted` and the fewest places, values, gradients and slips, each with plenty of the others, that are accepted, then `kept`, or `written` where a refused call wrote something or an accepted one something
 // past its last row. The files stdin and stdout beside this program were made by `oracle/readings store`: the numbers are the Rust's faces and discs.
-ghost use mathlib.Core.Path.{_≡_};
-ghost use lib.ListN.{length};
 ghost use Prim.Native.Nat.{_≤_};
 use bodies::Bodies;
 use bodies::Checked;
