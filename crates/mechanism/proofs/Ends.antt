@@ -2,7 +2,7 @@
 use Prim.Native.Nat.{ℕ, zero, suc, _+_, _%_, _<_, _≤_}
 use native.Mathlib.Omega.{arith}
 use native.Mathlib.Nat.{mod-lt}
-use mathlib.Core.Path.{_≡_, refl, sym, ap, ap₂, subst, _∙_}
+use mathlib.Core.Path.{_≡_, refl, ap, ap₂, subst, _∙_}
 use mathlib.Core.Bool.{Bool, true, false, _||_, cond}
 use mathlib.Core.List.{List, [], _∷_}
 use lib.Dec.{ltb}
@@ -19,7 +19,7 @@ use Rattle.bodies.specs.declared.Checked.{Checked}
 use Rattle.bodies.specs.declared.Checked.the-variants.{Accepted}
 use Rattle.bodies.specs.declared.Problem.the-variants.{PartOnNoSuchBody, OutlineNotClosed}
 use Rattle.mechanism.specs.Description.{partAt, segAt, segsOf, startOfPart}
-use Rattle.mechanism.specs.Check.{outlineOpen, partChecked, partsChecked}
+use Rattle.mechanism.specs.Check.{outlineOpen, partsChecked}
 use Rattle.mechanism.specs.Ends.{HasEnds, endsRow, rowOpen, endsOpen, endsChecked}
 use Rattle.mechanism.specs.declared.Outlines.{Outlines}
 use Rattle.mechanism.specs.declared.Parts.{Parts}

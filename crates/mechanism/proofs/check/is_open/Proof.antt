@@ -1,4 +1,3 @@
-use native.Mathlib.Omega.{arith}
 use borrow.Author.Needs.{needs}
 use Rattle.mechanism.proofs.check.is_open.Statement.{statement}
 use Rattle.mechanism.proofs.check.is_open.Tie as tie

@@ -1,4 +1,3 @@
-use native.Mathlib.Omega.{arith}
 use Rattle.mechanism.proofs.Ends.{parts-read}
 use borrow.Author.Needs.{needs}
 use Rattle.mechanism.proofs.check.parts_checked.Statement.{statement}
