@@ -256,6 +256,11 @@ fn corners() -> Vec<(u8, Vec<f64>)> {
             out.push((b'S', vec![u[0], u[1], f[0], f[1], t[0], t[1]]));
         }
     }
+    // Over a half turn: the slack inside either end of the complement, then one bit more.
+    let more = f64::from_bits(step.to_bits() + 1);
+    for u in [[1.0, step], [1.0, more], [step, 1.0], [more, 1.0]] {
+        out.push((b'S', vec![u[0], u[1], 0.0, 1.0, 1.0, 0.0]));
+    }
     for (f, t) in [([1.0, 0.0], [1.0, 0.0]), ([1.0, 0.0], [-1.0, 0.0]), ([0.0, 1.0], [0.0, -1.0]), ([1.0, 0.0], [0.0, 1.0]), ([0.0, 1.0], [1.0, 0.0])] {
         out.push((b'H', vec![f[0], f[1], t[0], t[1]]));
         for r in [0.5, 0.0, -0.5, inf, nan] {

@@ -126,6 +126,42 @@ fn near_row_bound(rng: &mut Rng) -> Sheet {
     sheet
 }
 
+/// A chain of fifteen bodies, hinges and slides in turn, on fifteen of sixteen
+/// coordinates.
+fn long_chain() -> Sheet {
+    let mut sheet = Sheet::default();
+    for k in 0..15 {
+        let value = 0.015625 * (k as f64 - 7.0);
+        if k % 2 == 0 {
+            sheet.hinge(k, (0.0, 0.125), value);
+        } else {
+            sheet.slide(k, (0.125, 0.0), (1.0, 2.0), value);
+        }
+    }
+    sheet.coordinate(0.25);
+    sheet
+}
+
+/// A sheet at all eight limits, with a row bound of 256: of two pairs of
+/// features 72 and 18, of thirteen centre bearings 12 each and of one 10.
+pub fn all_limits() -> Sheet {
+    let mut sheet = long_chain();
+    let sizes = [&[48][..], &[12; 26], &[8], &[4; 4]].concat();
+    for (k, &n) in sizes.iter().enumerate() {
+        sheet.part(solid(k % 16, round_polygon(n, 0.0)));
+    }
+    let apart = [(0, 0, 3), (0, 4, 7), (0, 8, 11), (0, 12, 15)];
+    sheet.pair(false, &[(15, 7, 8)], &apart);
+    sheet.pair(false, &[(9, 8, 9)], &[(2, 1, 4)]);
+    let joined = |part, last| [(part, 0, 3), (part, 3, 6), (part, 6, 9), (part, 9, last)];
+    for k in 3..17 {
+        let last = if k == 3 { 10 } else { 12 };
+        sheet.pair(true, &joined(k, last), &joined(k + 9, 12));
+    }
+    sheet.margin = f64::INFINITY;
+    sheet
+}
+
 /// A sheet at one of the limits.
 pub fn at_limit(rng: &mut Rng) -> Sheet {
     match rng.below(6) {

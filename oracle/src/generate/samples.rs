@@ -1,7 +1,9 @@
-//! The sample sheets in `sheets/`, from decimal numbers in metres.
+//! The sample sheets in `sheets/`, from decimal numbers in metres; the
+//! findings; and chosen corners.
 
-use crate::outline::{chain, corners, polygon, rounded};
-use crate::sheet::{honest, solid, Sheet};
+use crate::limits::all_limits;
+use crate::outline::{chain, corners, polygon, rounded, Element};
+use crate::sheet::{honest, solid, Joint, Part, Range, Seg, Sheet};
 use crate::trade::{cloth, keystick, pin, punching, Key};
 
 /// The worked example of document 01.
@@ -170,6 +172,35 @@ fn facing_overflows() -> Sheet {
     sheet
 }
 
+/// A stop whose upper corner stands at the height -0.0, under a level face: in
+/// `bearing` its end is computed as +0.0, so that no face meets it and there
+/// is no slope.
+fn corner_at_minus_zero() -> Sheet {
+    let mut sheet = Sheet::default();
+    let body = sheet.body(0, Joint::Ground);
+    let key = [(-1.0, 0.5), (1.0, 0.5), (0.0, 1.0)];
+    let stop = [(-1.0, -1.0), (1.0, -1.0), (0.0, -0.0)];
+    sheet.part(solid(body, polygon(&key)));
+    sheet.part(solid(0, polygon(&stop)));
+    sheet.pair(false, &[(0, 0, 1)], &[(1, 1, 3)]);
+    sheet.margin = 1.0;
+    sheet
+}
+
+/// A triangle on a slide that stands whole in a square on the ground, and a
+/// cut on the ground, outside the square, with the same coordinates as the
+/// triangle: no side of the triangle is sampled.
+fn cut_of_another_body() -> Sheet {
+    let mut sheet = Sheet::default();
+    let body = sheet.slide(0, (4.0, 0.0), (0.0, 1.0), 0.0);
+    let triangle = polygon(&[(0.0, 0.0), (1.0, 0.0), (0.0, 1.0)]);
+    sheet.part(solid(body, triangle.clone()));
+    sheet.part(solid(0, polygon(&corners(3.0, -1.0, 6.0, 2.0))));
+    sheet.part(cut(0, triangle));
+    sheet.pair(false, &[(0, 0, 1)], &[(1, 2, 3)]);
+    sheet
+}
+
 /// A corner that touches one underside with a gap of -0.0 and stands deep in
 /// the part below it: -0.0 is not negative, so the deep row stays.
 fn minus_zero_gap() -> Sheet {
@@ -229,24 +260,208 @@ fn two_segments_revolved() -> Sheet {
     sheet
 }
 
+/// A cut in the section.
+fn cut(body: usize, outline: Vec<Seg>) -> Part {
+    Part {
+        role: 'C',
+        ..solid(body, outline)
+    }
+}
+
+/// How far the block over a pin is raised.
+const RAISED: f64 = 0.125;
+
+/// A block on a slide, with a mortise that is cut up from its underside, over
+/// a pin on the ground that stands in the mortise. Of the block only the
+/// segment over the pin, from (-1, 0) to (1, 0), stands in the pin, its middle
+/// 0.5 deep; nothing of the pin stands in the block.
+fn over_a_pin(mortise: Vec<Seg>) -> Sheet {
+    let mut sheet = Sheet::default();
+    let body = sheet.slide(0, (0.0, 0.0), (0.0, 1.0), RAISED);
+    sheet.entries[0] = (RAISED, 0.0, 1.0);
+    let left = [(-2.0, 3.0), (-2.0, 0.0), (-1.0, 0.0)];
+    let right = [(1.0, 0.0), (2.0, 0.0), (2.0, 3.0)];
+    sheet.part(solid(body, polygon(&[left, right].concat())));
+    sheet.part(solid(0, polygon(&corners(-0.5, -2.0, 0.5, 1.0))));
+    sheet.part(cut(body, mortise));
+    sheet.pair(false, &[(0, 1, 4)], &[(1, 2, 3)]);
+    sheet
+}
+
+/// A mortise that reaches below the block, so that its own lower side is not
+/// the block's segment.
+fn deeper_mortise() -> Vec<Seg> {
+    polygon(&corners(-1.0, -0.5, 1.0, 2.0))
+}
+
+/// The arc from (-1, 0) to (1, 0) about (0, 0), over the lower half.
+fn lower_half() -> Element {
+    Element::Arc {
+        c: (0.0, 0.0),
+        r: 1.0,
+        from: (-1.0, 0.0),
+        to: (1.0, 0.0),
+    }
+}
+
+/// The lower side of the mortise is an arc: the block's segment between its
+/// ends is not sampled.
+fn arc_as_mouth() -> Sheet {
+    let top = [(1.0, 2.0), (-1.0, 2.0)].map(Element::Corner);
+    over_a_pin(chain(&[&[lower_half()], &top[..]].concat()))
+}
+
+/// The block's segment is an arc with the ends of the mortise's lower side: it
+/// is not sampled, though it stands 0.5 deep in a slab.
+fn arc_over_mouth() -> Sheet {
+    let mut sheet = over_a_pin(polygon(&corners(-1.0, 0.0, 1.0, 2.0)));
+    let left = [(-2.0, 3.0), (-2.0, 0.0)].map(Element::Corner);
+    let right = [(2.0, 0.0), (2.0, 3.0)].map(Element::Corner);
+    let middle = [lower_half()];
+    sheet.parts[0].outline = chain(&[&left[..], &middle, &right].concat());
+    sheet.parts[1].outline = polygon(&corners(-15.0, -8.0, 17.0, RAISED - 0.5));
+    sheet
+}
+
+/// A cut of a third body has the block's segment: not sampled.
+fn mouth_of_third_body() -> Sheet {
+    let mut sheet = over_a_pin(deeper_mortise());
+    let third = sheet.body(0, Joint::Ground);
+    sheet.part(cut(third, polygon(&corners(-1.0, 0.0, 1.0, 2.0))));
+    sheet
+}
+
+/// A cut of a third body has a segment where the block's is placed, with other
+/// coordinates on its body: the block's is sampled.
+fn mouth_where_placed() -> Sheet {
+    let mut sheet = over_a_pin(deeper_mortise());
+    let third = sheet.body(0, Joint::Ground);
+    sheet.part(cut(third, polygon(&corners(-1.0, RAISED, 1.0, 2.0))));
+    sheet
+}
+
+/// The mortise's lower side begins at a height of -0.0, the block's segment at
+/// 0.0: sampled.
+fn mouth_at_minus_zero() -> Sheet {
+    over_a_pin(polygon(&[
+        (-1.0, -0.0),
+        (1.0, 0.0),
+        (1.0, 2.0),
+        (-1.0, 2.0),
+    ]))
+}
+
+/// A square on a slide over a block on the ground, with a half round cut in
+/// one of its sides; side A has the ranges that the caller gives.
+fn notched(notch: [Seg; 2], ranges: [Range; 2]) -> Sheet {
+    let mut sheet = Sheet::default();
+    let body = sheet.slide(0, (0.0, 0.0), (0.0, 1.0), 0.5);
+    sheet.entries[0] = (0.5, 0.0, 1.0);
+    sheet.part(solid(body, polygon(&corners(0.0, 0.0, 1.0, 1.0))));
+    sheet.part(solid(0, polygon(&corners(-1.0, -1.0, 2.0, 0.0))));
+    sheet.part(cut(body, notch.to_vec()));
+    sheet.pair(false, &ranges, &[(1, 2, 3)]);
+    sheet.margin = 1.0;
+    sheet
+}
+
+/// The cut's range, run backwards, ends with its arc at (0, 0), where the
+/// underside begins: not joined, so the underside's first corner is one of
+/// the square.
+fn cut_arc_ends_range() -> Sheet {
+    let (up, down) = ((0.0, 1.0), (0.0, -1.0));
+    let arc = Seg::Arc {
+        c: (0.0, 0.5),
+        r: 0.5,
+        from: down,
+        to: up,
+    };
+    let line = Seg::Line {
+        a: (0.0, 1.0),
+        b: (0.0, 0.0),
+    };
+    notched([arc, line], [(2, 0, 2), (0, 0, 1)])
+}
+
+/// The cut's range, run backwards, begins with its arc at (1, 0), where the
+/// underside ends: not joined, so the underside's last corner is one of the
+/// square.
+fn cut_arc_begins_range() -> Sheet {
+    let (up, down) = ((0.0, 1.0), (0.0, -1.0));
+    let line = Seg::Line {
+        a: (1.0, 0.0),
+        b: (1.0, 1.0),
+    };
+    let arc = Seg::Arc {
+        c: (1.0, 0.5),
+        r: 0.5,
+        from: up,
+        to: down,
+    };
+    notched([line, arc], [(0, 0, 1), (2, 0, 2)])
+}
+
+/// A stop on the second of two bodies, each turned by half a turn with a lent
+/// sine of 0.0: its placement has the sine -0.0 and counts as the world's. Its
+/// face's normal is one that `Dir::new` would change, and is left as it is.
+fn half_turns() -> Sheet {
+    let mut sheet = Sheet::default();
+    let first = sheet.hinge(0, (0.0, 0.0), 0.0);
+    sheet.entries[0] = (core::f64::consts::PI, 0.0, -1.0);
+    let pivot = (0.0, 0.0);
+    let second = sheet.body(first, Joint::Hinge { coord: 0, pivot });
+    let key = [(1.0, 1.5), (2.0, 2.5), (0.0, 2.5)];
+    let stop = [(0.0, 0.0), (29.0 / 16.0, 0.0), (0.0, 19.0 / 16.0)];
+    sheet.part(solid(0, polygon(&key)));
+    sheet.part(solid(second, polygon(&stop)));
+    sheet.pair(false, &[(0, 2, 3)], &[(1, 1, 2)]);
+    sheet.margin = 1.0;
+    sheet
+}
+
+/// A triangle over a square with no coordinate.
+fn no_coordinates() -> Sheet {
+    let mut sheet = Sheet::default();
+    let body = sheet.body(0, Joint::Ground);
+    let triangle = [(0.5, 1.5), (1.0, 2.5), (0.0, 2.5)];
+    sheet.part(solid(0, polygon(&corners(0.0, 0.0, 1.0, 1.0))));
+    sheet.part(solid(body, polygon(&triangle)));
+    sheet.pair(false, &[(1, 2, 3)], &[(0, 2, 3)]);
+    sheet.margin = 1.0;
+    sheet
+}
+
 /// Corners of document 01 that random sheets do not meet.
-pub fn chosen() -> [(&'static str, Sheet); 5] {
+pub fn chosen() -> [(&'static str, Sheet); 15] {
     [
         ("minus-zero-gap", minus_zero_gap()),
         ("flat-limit", flat_limit()),
         ("past-the-flat-limit", past_the_flat_limit()),
         ("nine-before-eight", nine_before_eight()),
         ("two-segments-revolved", two_segments_revolved()),
+        ("arc-as-mouth", arc_as_mouth()),
+        ("arc-over-mouth", arc_over_mouth()),
+        ("mouth-of-third-body", mouth_of_third_body()),
+        ("mouth-where-placed", mouth_where_placed()),
+        ("mouth-at-minus-zero", mouth_at_minus_zero()),
+        ("cut-arc-ends-range", cut_arc_ends_range()),
+        ("cut-arc-begins-range", cut_arc_begins_range()),
+        ("half-turns", half_turns()),
+        ("no-coordinates", no_coordinates()),
+        ("all-limits", all_limits()),
     ]
 }
 
-/// The inputs on which the patched and the unpatched original differ.
-pub fn findings() -> [(&'static str, Sheet); 4] {
+/// The inputs on which the patched and the unpatched original differ, then
+/// those on which the original is not what a reader may expect.
+pub fn findings() -> [(&'static str, Sheet); 6] {
     [
         ("no-placed-length", no_placed_length()),
         ("reach-overflows", reach_overflows()),
         ("middle-overflows", middle_overflows()),
         ("facing-overflows", facing_overflows()),
+        ("corner-at-minus-zero", corner_at_minus_zero()),
+        ("cut-of-another-body", cut_of_another_body()),
     ]
 }
 
