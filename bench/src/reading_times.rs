@@ -1,6 +1,6 @@
 //! For bench/run: the original's readings. Reads a sheet text behind its length in six digits and a newline, then requests of two numbers in the same form, what is
 //! asked and how often, until the second is zero: 0 asks for the whole reading (pose, rows with columns, and of every pair both overlaps and the bearing), 1 for
-//! `pair_overlap` of one pair after the other at one pose. Prints the bits of the sum of the answers of each request.
+//! `pair_overlap` of one pair after the other at one pose, 2 for the same where each is asked of a mechanism that is checked and built for it. Prints the bits of the sum of the answers of each request.
 mod checks;
 mod contact;
 mod decided;
@@ -49,10 +49,15 @@ fn main() {
             return;
         }
         let mut sum = 0.0;
-        if what == 1 {
+        if what == 1 || what == 2 {
             let pose = mechanism.pose(&values);
             for k in 0..turns {
-                sum += mechanism.pair_overlap(black_box(&pose), u16::try_from(k % usize::from(pairs)).expect("a pair"));
+                let pair = u16::try_from(k % usize::from(pairs)).expect("a pair");
+                sum += if what == 1 {
+                    mechanism.pair_overlap(black_box(&pose), pair)
+                } else {
+                    checks::described(black_box(&sheet)).expect("an accepted sheet").pair_overlap(&pose, pair)
+                };
             }
             println!("{:016x}", f64::to_bits(sum));
             std::io::stdout().flush().expect("output");
