@@ -3,10 +3,10 @@ use Prim.Native.Nat.{ℕ, zero, suc, _+_, _-_, _<_, _≤_}
 use Prim.Native.Char.{code}
 use native.Mathlib.Omega.{arith}
 use native.Mathlib.Numerals.{add-one}
-use mathlib.Core.Path.{_≡_, refl, sym, ap, _∙_}
-use mathlib.Core.Bool.{Bool, true, false, cond}
+use mathlib.Core.Path.{_≡_, refl, sym, ap, subst, _∙_}
+use mathlib.Core.Bool.{Bool, true, false, not, cond}
 use mathlib.Core.List.{List, [], _∷_}
-use lib.Dec.{ltb}
+use lib.Dec.{ltb, eqb}
 use lib.ListN.{length, getD, set}
 use lib.Seq.{getD-set-other, sets}
 use borrow.Author.Tests.{le-ltb}
@@ -20,11 +20,14 @@ use Rattle.mechanism.specs.declared.pair.Surface.{Surface}
 use Rattle.mechanism.specs.declared.pair.ContactPair.{ContactPair}
 use Rattle.mechanism.specs.declared.pair.PairGeometry.{PairGeometry}
 use Rattle.mechanism.specs.Description.{rangeLength, sideLength, sumIn}
-use Rattle.mechanism.specs.Check.{sideOver, pairOver, pairsOver, limitPassed}
+use Rattle.mechanism.specs.Check.{sideOver, pairOver, pairsOver, limitPassed, checkOf}
 use Rattle.mechanism.proofs.Checks.{parts-few}
+use Rattle.mechanism.proofs.Refusals.{NotThree, then-not, if-not, check-not}
+use Rattle.bodies.specs.Check.{andThen}
 use Rattle.bodies.specs.declared.Problem.{Problem}
-use Rattle.bodies.specs.declared.Problem.the-variants.{TextTooLong, LineNotRead, LimitPassed}
-use Rattle.bodies.specs.declared.Checked.the-variants.{Accepted}
+use Rattle.bodies.specs.declared.Problem.the-variants.{TextTooLong, LineNotRead, LimitPassed, PoseNotMatching}
+use Rattle.bodies.specs.declared.Checked.{Checked}
+use Rattle.bodies.specs.declared.Checked.the-variants.{Accepted, Refused}
 use Rattle.text.specs.Lists.{foldOf}
 use Rattle.text.specs.Pieces.{split}
 use Rattle.text.specs.declared.records.Record.{Record}
@@ -36,7 +39,7 @@ use Rattle.sheet.specs.declared.draft.Draft.{Draft}
 use Rattle.sheet.specs.Grammar.{noLine}
 use Rattle.sheet.specs.Limits.{Bounds, noSide, noTally, moreSide, counted, withinLimits}
 use Rattle.sheet.specs.Draft.{noOutlines, noDraft, noRange, newPair, outPart, outPair, grown, onA, onB, put}
-use Rattle.sheet.specs.Read.{Lines, stuck, whole, allWithin, lines, drafted, edges, accepted, refused, judged, sheetOfLines, writtenIn}
+use Rattle.sheet.specs.Read.{Lines, stuck, whole, allWithin, lines, drafted, edges, accepted, refused, judged, sheetOfLines, writtenIn, entriesChecked, sheetChecked}
 use Rattle.sheet.proofs.Counting.{bounds, no-tally-bounds}
 
 -- ---- arrays
@@ -267,3 +270,24 @@ no-limit-passed text = go (ltb 65536 (length text))
 -- a text whose lines keep within the limits makes a description that passes none
 pub limits-agree : (text : List ℕ) → writtenIn text .checked ≡ Accepted → limitPassed (writtenIn text .mechanism) ≡ false
 limits-agree text e = no-limit-passed text
+
+-- 3 is answered for a text only where a line of it passes a limit
+pub three-of-lines : (text : List ℕ) → sheetChecked (writtenIn text) ≡ Refused LimitPassed → writtenIn text .checked ≡ Refused LimitPassed
+unfolding sheetChecked
+three-of-lines text e = go (s .checked) e
+  where
+    s : Sheet
+    s = writtenIn text
+
+    entries : Checked
+    entries = entriesChecked (s .entries .count) (s .mechanism .bodies .coords)
+
+    rest : Checked
+    rest = andThen (checkOf (s .mechanism)) entries
+
+    rest-not : NotThree rest
+    rest-not = then-not (checkOf (s .mechanism)) entries (check-not (s .mechanism) (no-limit-passed text)) (if-not (not (eqb (s .entries .count) (s .mechanism .bodies .coords))) PoseNotMatching (λ f. omega arith))
+
+    go : (c : Checked) → andThen c rest ≡ Refused LimitPassed → c ≡ Refused LimitPassed
+    go Accepted f = absurd (subst NotThree f rest-not refl)
+    go (Refused p) f = f
