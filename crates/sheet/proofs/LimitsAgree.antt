@@ -267,10 +267,6 @@ no-limit-passed text = go (ltb 65536 (length text))
     go true = blank-within TextTooLong
     go false = lines-within (lines noLine 1 (split (code "\n") text))
 
--- a text whose lines keep within the limits makes a description that passes none
-pub limits-agree : (text : List ℕ) → writtenIn text .checked ≡ Accepted → limitPassed (writtenIn text .mechanism) ≡ false
-limits-agree text e = no-limit-passed text
-
 -- 3 is answered for a text only where a line of it passes a limit
 pub three-of-lines : (text : List ℕ) → sheetChecked (writtenIn text) ≡ Refused LimitPassed → writtenIn text .checked ≡ Refused LimitPassed
 unfolding sheetChecked
