@@ -230,8 +230,8 @@ fn put_pairs(
     ensures { λ r. ⌜ Put (bodies .coords) (map placeRow (allRows (now (faces .entry)) (now (fnames .entry)) (now (discs .entry)) (now (dnames .entry)) (now (sides .entry)) (now (centers .entry)) (now (choices .entry)) (now (drawn .entry)) (now (parts .entry)) q margin n)) (map valueRow (allRows (now (faces .entry)) (now (fnames .entry)) (now (discs .entry)) (now (dnames .entry)) (now (sides .entry)) (now (centers .entry)) (now (choices .entry)) (now (drawn .entry)) (now (parts .entry)) q margin n)) (allGrads (now (faces .entry)) (now (fnames .entry)) (now (discs .entry)) (now (dnames .entry)) (now (sides .entry)) (now (centers .entry)) (now (choices .entry)) (now (drawn .entry)) (now (parts .entry)) bodies q margin n) (allSlips (now (faces .entry)) (now (fnames .entry)) (now (discs .entry)) (now (dnames .entry)) (now (sides .entry)) (now (centers .entry)) (now (choices .entry)) (now (drawn .entry)) (now (parts .entry)) bodies q margin n) 0 r (now (places .entry)) (now (places .exit)) (now (values .entry)) (now (values .exit)) (now (grad .entry)) (now (grad .exit)) (now (slip .entry)) (now (slip .exit)) ⌝ }
 {
     let mut at: usize = 0;
-    let mut i: usize = 0;
-    while i < n {
+    let mut pair: usize = 0;
+    while pair < n {
         at = put_pair(
             places,
             values,
@@ -250,9 +250,9 @@ fn put_pairs(
             parts,
             q,
             margin,
-            i,
+            pair,
         );
-        i += 1;
+        pair += 1;
     }
     at
 }

@@ -23,14 +23,14 @@ put-pair-requires c κs =
     let s = c .before .before .before .before .before .before .before .before in
     let l = c .before .before .before .before .before .loop in
     let h = c .before .before .before .before .loop-test .taken in
-    let k = sum-more (boundIn (s .args .sides .now)) (l .i) in
-    let m = sum-mono (boundIn (s .args .sides .now)) (l .i + 1) (s .args .n) (omega (arith, h)) in
+    let k = sum-more (boundIn (s .args .sides .now)) (l .pair) in
+    let m = sum-mono (boundIn (s .args .sides .now)) (l .pair + 1) (s .args .n) (omega (arith, h)) in
     let u = l .inv .upto in
     let p = s .pre .2 in
     (s .pre .0, omega (arith, k, m, u, p), pairs-room (l .inv) (boundsIn (s .args .sides .now) (s .args .n)) _ (s .pre .3) (omega (arith, k, m)) (omega arith))
 
-add-i : tie.Need-add-i Inv-loop μ-loop
-add-i c = let f = c .before .before .before .before .before .before .before .before .before .before .before .before .before .before .before .pre .1 in omega (arith, f)
+add-pair : tie.Need-add-pair Inv-loop μ-loop
+add-pair c = let f = c .before .before .before .before .before .before .before .before .before .before .before .before .before .before .before .pre .1 in omega (arith, f)
 
 loop-less : tie.Need-loop-less Inv-loop μ-loop
 loop-less c = omega arith
@@ -39,7 +39,7 @@ loop-again : tie.Need-loop-again Inv-loop μ-loop
 loop-again c =
     let a = c .before .before .before .before .before .before .before .before .before .before .before .before .before .before .before .args in
     let l = c .before .before .before .before .before .before .before .before .before .before .before .before .loop in
-    pairs-more (l .inv) (c .before .before .before .before .before .before .before .before .before .before .before .loop-test .taken) (rows-few (a .faces .now) (a .fnames .now) (a .discs .now) (a .dnames .now) (a .sides .now) (a .centers .now) (a .choices .now) (a .drawn .now) (a .parts .now) (a .q) (l .i) (a .bodies) (a .margin)) (grads-long (a .faces .now) (a .fnames .now) (a .discs .now) (a .dnames .now) (a .sides .now) (a .centers .now) (a .choices .now) (a .drawn .now) (a .parts .now) (a .q) (l .i) (a .bodies) (a .margin)) (slips-long (a .faces .now) (a .fnames .now) (a .discs .now) (a .dnames .now) (a .sides .now) (a .centers .now) (a .choices .now) (a .drawn .now) (a .parts .now) (a .q) (l .i) (a .bodies) (a .margin)) (c .before .before .before .before .before .before .put-pair .ensures)
+    pairs-more (l .inv) (c .before .before .before .before .before .before .before .before .before .before .before .loop-test .taken) (rows-few (a .faces .now) (a .fnames .now) (a .discs .now) (a .dnames .now) (a .sides .now) (a .centers .now) (a .choices .now) (a .drawn .now) (a .parts .now) (a .q) (l .pair) (a .bodies) (a .margin)) (grads-long (a .faces .now) (a .fnames .now) (a .discs .now) (a .dnames .now) (a .sides .now) (a .centers .now) (a .choices .now) (a .drawn .now) (a .parts .now) (a .q) (l .pair) (a .bodies) (a .margin)) (slips-long (a .faces .now) (a .fnames .now) (a .discs .now) (a .dnames .now) (a .sides .now) (a .centers .now) (a .choices .now) (a .drawn .now) (a .parts .now) (a .q) (l .pair) (a .bodies) (a .margin)) (c .before .before .before .before .before .before .put-pair .ensures)
 
 same-length : tie.Need-same-length Inv-loop μ-loop
 same-length c = c .before .loop .inv .placed .long
@@ -64,7 +64,7 @@ put-pairs-spec =
     μ-loop
     loop-holds
     put-pair-requires
-    add-i
+    add-pair
     loop-less
     loop-again
     same-length
