@@ -1,6 +1,7 @@
 pub mod Description
 pub mod Check
 pub mod Ends
+pub mod Segments
 pub mod Pose
 pub mod Piece
 pub mod Rows

@@ -7,6 +7,7 @@ pub mod pair;
 pub mod part;
 pub mod pose;
 pub mod rows;
+pub mod segments;
 
 use bodies::Bodies;
 use bodies::Problem;
