@@ -49,8 +49,11 @@ partsOver p = ltb 32 (p .count) || (anyIn (λ i. ltb 48 (segsOf p i)) (p .count)
 unfoldable pub pairsOver : Pairs → Bool
 pairsOver p = ltb 16 (p .count) || anyIn (λ i. pairOver (pairAt p i)) (p .count) 0
 
+abbrev pub limitsPassed : Bodies → Parts → Pairs → Bool
+limitsPassed b p q = (ltb 15 (b .count) || ltb 16 (b .coords)) || (partsOver p || pairsOver q)
+
 unfoldable pub limitPassed : Mechanism → Bool
-limitPassed m = (ltb 15 (m .bodies .count) || ltb 16 (m .bodies .coords)) || (partsOver (m .parts) || pairsOver (m .pairs))
+limitPassed m = limitsPassed (m .bodies) (m .parts) (m .pairs)
 
 -- ---- 5: an axis or an arc's direction has no `Dir::new`, or a revolved axis is NaN
 abbrev pub hasNone : MaybeDir → Bool
@@ -167,12 +170,16 @@ checkOf m =
 
 -- ---- document 01's list for a call on a description: 3 to 10, then 11, 12 and 13 where the call asks for them
 -- fits: the pose has one entry a coordinate, or one placement a body; known: everything that is named is there; room: the lent rows have room. Where a call does not ask for one of them, it is true.
-abbrev pub callChecked : Mechanism → (fits known room : Bool) → Checked
-callChecked m fits known room =
-    andThen (checkOf m)
+-- behind the check c of the description
+abbrev pub thenCalled : Checked → (fits known room : Bool) → Checked
+thenCalled c fits known room =
+    andThen c
     (andThen (refusedIf (not fits) PoseNotMatching)
     (andThen (refusedIf (not known) NoSuchThing)
     (refusedIf (not room) TooFewRows)))
+
+abbrev pub callChecked : Mechanism → (fits known room : Bool) → Checked
+callChecked m fits known room = thenCalled (checkOf m) fits known room
 
 -- the answer of a call: a number, or the first refusal that applies
 abbrev pub answerOf : Checked → Float → FloatAnswer

@@ -1,14 +1,12 @@
 // The refusals of a description as a value (document 01, "Refused, first that applies", 3 to 10).
 ghost use mathlib.Core.Path.{_≡_};
-ghost use mathlib.Core.Bool.{not};
+ghost use mathlib.Core.Bool.{not, _||_};
 ghost use Prim.Native.Nat.{_+_, _≤_, _<_};
 ghost use Rattle.mechanism.specs.Description.{partAt, startOfPart, silhouetteLength, rangeLength, turnedLength};
-ghost use lib.ListN.{length};
 ghost use Rattle.bodies.specs.Check.{isAccepted, firstRefused};
-ghost use Rattle.mechanism.specs.Ends.{HasEnds, rowOpen, endsOpen, endsChecked};
-ghost use Rattle.mechanism.specs.Check.{sideOver, pairOver, partsOver, pairsOver, limitPassed, noDir, jointLacks, sweepLacks, segLacks, bodiesLack, partsLack, outlinesLack, directionMissing, pointFinite, samePoint, partsChecked, partDraws, isWrong, withBody, withDrawn, sideEnd, sideBody, sidesChecked, pairsChecked, checkOf, callChecked, isOn, sideDrawn, pairDrawn, FewParts, FewPairs, Few};
+ghost use Rattle.mechanism.specs.Segments.{outlinesIn, described, segsCounted};
+ghost use Rattle.mechanism.specs.Check.{sideOver, pairOver, partsOver, pairsOver, limitsPassed, noDir, jointLacks, sweepLacks, segLacks, bodiesLack, partsLack, outlinesLack, pointFinite, samePoint, segOpen, outlineOpen, partChecked, partsChecked, partDraws, isWrong, withBody, withDrawn, sideEnd, sideBody, sidesChecked, pairsChecked, checkOf, thenCalled, callChecked, isOn, sideDrawn, pairDrawn, FewParts, FewPairs};
 use super::Mechanism;
-use super::Outlines;
 use super::Pairs;
 use super::Parts;
 use super::pair::ContactPair;
@@ -16,6 +14,9 @@ use super::pair::Surface;
 use super::part::Part;
 use super::part::SurfaceRef;
 use super::part::Sweep;
+use super::segments::SegRow;
+use super::segments::put_segs;
+use super::segments::seg_at;
 use bodies::Bodies;
 use bodies::Body;
 use bodies::Checked;
@@ -107,12 +108,9 @@ fn pairs_over(p: Pairs) -> bool
     false
 }
 
-fn limit_passed(m: Mechanism) -> bool
-    ensures { λ r. ⌜ r ≡ limitPassed m ⌝ }
+fn limit_passed(b: Bodies, p: Parts, q: Pairs) -> bool
+    ensures { λ r. ⌜ r ≡ limitsPassed b p q ⌝ }
 {
-    let b = m.bodies;
-    let p = m.parts;
-    let q = m.pairs;
     ((15 < b.count) | (16 < b.coords)) | (parts_over(p) | pairs_over(q))
 }
 
@@ -204,14 +202,12 @@ fn parts_lack(p: Parts) -> bool
     false
 }
 
-fn outlines_lack(o: Outlines, n: usize) -> bool
-    requires { ⌜ n ≤ 384 ⌝ }
-    ensures { λ r. ⌜ r ≡ outlinesLack o n ⌝ }
+fn outlines_lack(segs: &[SegRow], n: usize) -> bool
+    ensures { λ r. ⌜ r ≡ outlinesLack (outlinesIn (now (segs .entry))) n ⌝ }
 {
     let mut i: usize = 0;
     while i < n {
-        let b = o.seg[i];
-        let s = b.seg;
+        let s = seg_at(segs, i);
         i += 1;
         if seg_lacks(s) {
             return true;
@@ -221,9 +217,6 @@ fn outlines_lack(o: Outlines, n: usize) -> bool
 }
 
 // ---- 6 and 7, part by part: a part names no body; its outline is not finite or not closed
-
-// The two ends of a segment.
-type Ends = [f64; 4];
 
 fn point_finite(p: Point) -> bool
     ensures { λ r. ⌜ r ≡ pointFinite p ⌝ }
@@ -238,39 +231,19 @@ pub fn same_point(p: Point, q: Point) -> bool
     same(p.x, q.x) & same(p.y, q.y)
 }
 
-// Writes the ends of the first n segments.
-fn put_ends(ends: &mut [Ends], o: Outlines, n: usize)
-    requires { ⌜ (n ≤ 384) × (384 ≤ length (now ends)) ⌝ }
-    ensures { λ _. ⌜ HasEnds o n (now (ends .exit)) × (length (now (ends .exit)) ≡ length (now (ends .entry))) ⌝ }
-{
-    let mut i: usize = 0;
-    while i < n {
-        let b = o.seg[i];
-        let s = b.seg;
-        let p = s.start();
-        let q = s.end();
-        ends[i] = [p.x, p.y, q.x, q.y];
-        i += 1;
-    }
-}
-
 // Whether a segment is not finite, or does not end where the next begins.
-fn is_open(r: Ends, next: Ends) -> bool
-    ensures { λ x. ⌜ x ≡ rowOpen r next ⌝ }
+fn is_open(s: Seg, next: Seg) -> bool
+    ensures { λ r. ⌜ r ≡ segOpen s next ⌝ }
 {
-    let a = Point { x: r[0], y: r[1] };
-    let b = Point { x: r[2], y: r[3] };
-    let c = Point {
-        x: next[0],
-        y: next[1],
-    };
-    !((point_finite(a) & point_finite(b)) & same_point(b, c))
+    let a = s.start();
+    let b = s.end();
+    !((point_finite(a) & point_finite(b)) & same_point(b, next.start()))
 }
 
 // Whether of the n segments from `at` on there are fewer than two, or one is open.
-fn outline_open(ends: &[Ends], at: usize, n: usize) -> bool
-    requires { ⌜ (at + n ≤ 384) × (n ≤ 48) × (384 ≤ length (now ends)) ⌝ }
-    ensures { λ r. ⌜ r ≡ endsOpen (now (ends .entry)) at n ⌝ }
+fn outline_open(segs: &[SegRow], at: usize, n: usize) -> bool
+    requires { ⌜ (at + n ≤ 384) × (n ≤ 48) ⌝ }
+    ensures { λ r. ⌜ r ≡ outlineOpen (outlinesIn (now (segs .entry))) at n ⌝ }
 {
     if n < 2 {
         return true;
@@ -278,7 +251,7 @@ fn outline_open(ends: &[Ends], at: usize, n: usize) -> bool
     let mut i: usize = 0;
     while i < n {
         let k = (i + 1) % n;
-        let open = is_open(ends[at + i], ends[at + k]);
+        let open = is_open(seg_at(segs, at + i), seg_at(segs, at + k));
         i += 1;
         if open {
             return true;
@@ -287,14 +260,14 @@ fn outline_open(ends: &[Ends], at: usize, n: usize) -> bool
     false
 }
 
-fn part_checked(bodies: usize, ends: &[Ends], p: Part, at: usize, i: usize) -> Checked
-    requires { ⌜ (at + p .segs ≤ 384) × (p .segs ≤ 48) × (384 ≤ length (now ends)) ⌝ }
-    ensures { λ r. ⌜ r ≡ endsChecked bodies (now (ends .entry)) p at i ⌝ }
+fn part_checked(bodies: usize, segs: &[SegRow], p: Part, at: usize, i: usize) -> Checked
+    requires { ⌜ (at + p .segs ≤ 384) × (p .segs ≤ 48) ⌝ }
+    ensures { λ r. ⌜ r ≡ partChecked bodies (outlinesIn (now (segs .entry))) p at i ⌝ }
 {
     if bodies < p.body {
         return Checked::Refused(Problem::PartOnNoSuchBody { part: i });
     }
-    if outline_open(ends, at, p.segs) {
+    if outline_open(segs, at, p.segs) {
         return Checked::Refused(Problem::OutlineNotClosed { part: i });
     }
     Checked::Accepted
@@ -309,16 +282,16 @@ fn is_refused(c: Checked) -> bool
     }
 }
 
-fn each_checked(bodies: usize, p: Parts, ends: &[Ends]) -> Checked
-    requires { ⌜ FewParts p × (384 ≤ length (now ends)) ⌝ }
-    ensures { λ r. ⌜ r ≡ firstRefused (λ i. endsChecked bodies (now (ends .entry)) (partAt p i) (startOfPart p i) i) (p .count) 0 ⌝ }
+fn parts_checked(bodies: usize, p: Parts, segs: &[SegRow]) -> Checked
+    requires { ⌜ FewParts p ⌝ }
+    ensures { λ r. ⌜ r ≡ partsChecked bodies p (outlinesIn (now (segs .entry))) ⌝ }
 {
     let n = p.count;
     let mut at: usize = 0;
     let mut i: usize = 0;
     while i < n {
         let q = p.part[i];
-        let c = part_checked(bodies, ends, q, at, i);
+        let c = part_checked(bodies, segs, q, at, i);
         at += q.segs;
         i += 1;
         if is_refused(c) {
@@ -326,16 +299,6 @@ fn each_checked(bodies: usize, p: Parts, ends: &[Ends]) -> Checked
         }
     }
     Checked::Accepted
-}
-
-// The outlines are gone through once, whatever the number of parts.
-fn parts_checked(bodies: usize, p: Parts, o: Outlines) -> Checked
-    requires { ⌜ FewParts p ⌝ }
-    ensures { λ r. ⌜ r ≡ partsChecked bodies p o ⌝ }
-{
-    let mut ends = [[0.0; 4]; 384];
-    put_ends(&mut ends, o, segs_in_all(p));
-    each_checked(bodies, p, &ends)
 }
 
 // ---- 8 to 10, pair by pair
@@ -523,47 +486,62 @@ fn segs_in_all(p: Parts) -> usize
     total
 }
 
-fn direction_missing(m: Mechanism) -> bool
-    requires { ⌜ Few m ⌝ }
-    ensures { λ r. ⌜ r ≡ directionMissing m ⌝ }
+// How many segments the parts have; none where they pass a limit.
+pub fn segs_counted(p: Parts) -> usize
+    ensures { λ r. ⌜ (r ≡ segsCounted p) × (r ≤ 384) ⌝ }
 {
-    let b = m.bodies;
-    let p = m.parts;
-    let o = m.outlines;
-    bodies_lack(b) | (parts_lack(p) | outlines_lack(o, segs_in_all(p)))
+    if parts_over(p) {
+        return 0;
+    }
+    segs_in_all(p)
+}
+
+fn direction_missing(b: Bodies, p: Parts, segs: &[SegRow]) -> bool
+    requires { ⌜ (b .count ≤ 15) × FewParts p ⌝ }
+    ensures { λ r. ⌜ r ≡ bodiesLack b || (partsLack p || outlinesLack (outlinesIn (now (segs .entry))) (startOfPart p (p .count))) ⌝ }
+{
+    bodies_lack(b) | (parts_lack(p) | outlines_lack(segs, segs_in_all(p)))
+}
+
+// Whether a description whose outlines stand in rows is accepted, or the first refusal that applies.
+pub fn check_in(b: Bodies, p: Parts, segs: &[SegRow], q: Pairs) -> Checked
+    ensures { λ r. ⌜ r ≡ checkOf (described b p (now (segs .entry)) q) ⌝ }
+{
+    if limit_passed(b, p, q) {
+        return Checked::Refused(Problem::LimitPassed);
+    }
+    let placed = bodies_stand(b);
+    if is_refused(placed) {
+        return placed;
+    }
+    if direction_missing(b, p, segs) {
+        return Checked::Refused(Problem::NoDirection);
+    }
+    let drawn = parts_checked(b.count, p, segs);
+    if is_refused(drawn) {
+        return drawn;
+    }
+    pairs_checked(p, q)
 }
 
 // Whether a description is accepted, or the first refusal that applies.
 pub fn check(m: Mechanism) -> Checked
     ensures { λ r. ⌜ r ≡ checkOf m ⌝ }
 {
-    if limit_passed(m) {
-        return Checked::Refused(Problem::LimitPassed);
-    }
     let b = m.bodies;
-    let placed = bodies_stand(b);
-    if is_refused(placed) {
-        return placed;
-    }
-    if direction_missing(m) {
-        return Checked::Refused(Problem::NoDirection);
-    }
     let p = m.parts;
     let o = m.outlines;
-    let drawn = parts_checked(b.count, p, o);
-    if is_refused(drawn) {
-        return drawn;
-    }
     let q = m.pairs;
-    pairs_checked(p, q)
+    let mut segs = [[0.0; 8]; 384];
+    put_segs(&mut segs, o, segs_counted(p));
+    check_in(b, p, &segs, q)
 }
 
-// Document 01's list for a call on a description: 3 to 10, then 11 where the pose does not fit, 12 where something named is not there, 13 where the lent rows have
+// Document 01's list for a call, behind the check c of the description: 11 where the pose does not fit, 12 where something named is not there, 13 where the lent rows have
 // no room.
-pub fn call_checked(m: Mechanism, fits: bool, known: bool, room: bool) -> Checked
-    ensures { λ r. ⌜ r ≡ callChecked m fits known room ⌝ }
+pub fn then_called(c: Checked, fits: bool, known: bool, room: bool) -> Checked
+    ensures { λ r. ⌜ r ≡ thenCalled c fits known room ⌝ }
 {
-    let c = check(m);
     if is_refused(c) {
         return c;
     }
@@ -577,6 +555,13 @@ pub fn call_checked(m: Mechanism, fits: bool, known: bool, room: bool) -> Checke
         return Checked::Refused(Problem::TooFewRows);
     }
     Checked::Accepted
+}
+
+// The whole list for a call on a description: 3 to 10, then 11 to 13.
+pub fn call_checked(m: Mechanism, fits: bool, known: bool, room: bool) -> Checked
+    ensures { λ r. ⌜ r ≡ callChecked m fits known room ⌝ }
+{
+    then_called(check(m), fits, known, room)
 }
 
 fn is_on(s: Side) -> bool
