@@ -17,7 +17,7 @@ use lib.ListN.{length}
 use Rattle.mechanism.proofs.Worked as worked
 use Rattle.mechanism.specs.Description.{partAt, pairAt, segsOf, startOfPart, sideLength}
 use Rattle.bodies.specs.Check.{isAccepted, andThen, refusedIf, bodiesChecked, bodiesStand}
-use Rattle.mechanism.specs.Check.{sideOver, pairOver, partsOver, pairsOver, limitPassed, directionMissing, partsChecked, partDraws, withDrawn, withRange, sideBody, sidesChecked, pairsChecked, checkOf, callChecked, FewParts, FewPairs, Few}
+use Rattle.mechanism.specs.Check.{sideOver, pairOver, partsOver, pairsOver, limitPassed, directionMissing, partsChecked, partDraws, withDrawn, withRange, sideBody, sidesChecked, pairsChecked, checkOf, thenCalled, callChecked, FewParts, FewPairs, Few}
 use Rattle.mechanism.specs.declared.Parts.{Parts}
 use Rattle.mechanism.specs.declared.Pairs.{Pairs}
 use Rattle.mechanism.specs.declared.Mechanism.{Mechanism}
@@ -141,8 +141,8 @@ pub stand-is : (m : Mechanism) → limitPassed m ≡ false → bodiesStand (m .b
 unfolding bodiesStand limitPassed
 stand-is m e = goes-on-if LimitPassed (bodiesChecked (m .bodies)) (neither (ltb 15 (m .bodies .count) || ltb 16 (m .bodies .coords)) (partsOver (m .parts) || pairsOver (m .pairs)) e .0)
 
--- ---- where the list of a call ends
-module _ (m : Mechanism) (fits known room : Bool) where
+-- ---- where the list of a call ends, behind the check c of its description
+module _ (c : Checked) (fits known room : Bool) where
   abbrev fromRoom : Checked
   fromRoom = refusedIf (not room) TooFewRows
 
@@ -152,31 +152,31 @@ module _ (m : Mechanism) (fits known room : Bool) where
   abbrev fromPose : Checked
   fromPose = andThen (refusedIf (not fits) PoseNotMatching) fromNames
 
-  pub at-description : isAccepted (checkOf m) ≡ false → callChecked m fits known room ≡ checkOf m
-  at-description e = stops (checkOf m) fromPose e
+  pub at-description : isAccepted c ≡ false → thenCalled c fits known room ≡ c
+  at-description e = stops c fromPose e
 
-  past-description : isAccepted (checkOf m) ≡ true → callChecked m fits known room ≡ fromPose
-  past-description e = goes-on (checkOf m) fromPose e
+  past-description : isAccepted c ≡ true → thenCalled c fits known room ≡ fromPose
+  past-description e = goes-on c fromPose e
 
-  pub at-pose : isAccepted (checkOf m) ≡ true → not fits ≡ true → callChecked m fits known room ≡ Refused PoseNotMatching
+  pub at-pose : isAccepted c ≡ true → not fits ≡ true → thenCalled c fits known room ≡ Refused PoseNotMatching
   at-pose e f = past-description e ∙ stops-if PoseNotMatching fromNames f
 
-  pub past-pose : isAccepted (checkOf m) ≡ true → not fits ≡ false → callChecked m fits known room ≡ fromNames
+  pub past-pose : isAccepted c ≡ true → not fits ≡ false → thenCalled c fits known room ≡ fromNames
   past-pose e f = past-description e ∙ goes-on-if PoseNotMatching fromNames f
 
-  pub at-names : isAccepted (checkOf m) ≡ true → not fits ≡ false → not known ≡ true → callChecked m fits known room ≡ Refused NoSuchThing
+  pub at-names : isAccepted c ≡ true → not fits ≡ false → not known ≡ true → thenCalled c fits known room ≡ Refused NoSuchThing
   at-names e f g = past-pose e f ∙ stops-if NoSuchThing fromRoom g
 
-  pub past-names : isAccepted (checkOf m) ≡ true → not fits ≡ false → not known ≡ false → callChecked m fits known room ≡ fromRoom
+  pub past-names : isAccepted c ≡ true → not fits ≡ false → not known ≡ false → thenCalled c fits known room ≡ fromRoom
   past-names e f g = past-pose e f ∙ goes-on-if NoSuchThing fromRoom g
 
 -- ---- what an accepted description is known to be
 -- a call that is not refused: its description is accepted, and all that it asks for is there
 pub call-accepted : (m : Mechanism) (fits known room : Bool) → callChecked m fits known room ≡ Accepted → (checkOf m ≡ Accepted) × (fits ≡ true) × (known ≡ true) × (room ≡ true)
 call-accepted m fits known room e =
-    let a = passed (checkOf m) (fromPose m fits known room) e in
-    let b = passed (refusedIf (not fits) PoseNotMatching) (fromNames m fits known room) (a .1) in
-    let c = passed (refusedIf (not known) NoSuchThing) (fromRoom m fits known room) (b .1) in
+    let a = passed (checkOf m) (fromPose (checkOf m) fits known room) e in
+    let b = passed (refusedIf (not fits) PoseNotMatching) (fromNames (checkOf m) fits known room) (a .1) in
+    let c = passed (refusedIf (not known) NoSuchThing) (fromRoom (checkOf m) fits known room) (b .1) in
     (a .0, passed-if fits PoseNotMatching (b .0), passed-if known NoSuchThing (c .0), passed-if room TooFewRows (c .1))
 
 module _ (m : Mechanism) (e : checkOf m ≡ Accepted) where

@@ -1,7 +1,7 @@
 pub mod Worked
 pub mod Checks
 pub mod Drawn
-pub mod Ends
+pub mod SameCheck
 pub mod Known
 pub mod SegRows
 pub mod Refusals

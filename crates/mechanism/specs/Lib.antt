@@ -1,6 +1,5 @@
 pub mod Description
 pub mod Check
-pub mod Ends
 pub mod Segments
 pub mod Pose
 pub mod Piece

@@ -1,33 +1,22 @@
-use mathlib.Core.Path.{sym, _∙_}
-use Rattle.laws.proofs.Choice.{cond-yes, cond-no}
-use Rattle.bodies.proofs.Checks.{is-no, is-yes}
-use Rattle.mechanism.proofs.Checks.{at-description, at-pose, at-names, past-names}
 use borrow.Author.Needs.{needs}
 use Rattle.mechanism.proofs.check.call_checked.Statement.{statement}
 use Rattle.mechanism.proofs.check.call_checked.Tie as tie
+use Rattle.mechanism.proofs.check.call_checked.Reads as reads
+use Rattle.mechanism.proofs.check.call_checked.Lts as lts
+use Rattle.mechanism.proofs.check.check.Reads as check-reads
+use Rattle.mechanism.proofs.check.then_called.Reads as then-called-reads
 
+-- src/check.rt:564:17
 check-requires : tie.Need-check-requires
 check-requires c κs = search needs
 
-is-refused-requires : tie.Need-is-refused-requires
-is-refused-requires c κs = search needs
+-- src/check.rt:564:5
+then-called-requires : tie.Need-then-called-requires
+then-called-requires c κs = search needs
 
+-- src/check.rt:561:1
 returns : tie.Need-returns
-returns c = c .before .before .check .ensures ∙ sym (at-description (c .before .before .before .args .m) (c .before .before .before .args .fits) (c .before .before .before .args .known) (c .before .before .before .args .room) (is-no (c .before .before .check .ensures) (c .before .is-refused .ensures) (c .if1 .taken)))
-
-returns-2 : tie.Need-returns-2
-returns-2 c = sym (at-pose (c .before .before .before .before .args .m) (c .before .before .before .before .args .fits) (c .before .before .before .before .args .known) (c .before .before .before .before .args .room) (is-yes (c .before .before .before .check .ensures) (c .before .before .is-refused .ensures) (c .before .if1 .left)) (c .if2 .taken))
-
-returns-3 : tie.Need-returns-3
-returns-3 c = sym (at-names (c .before .before .before .before .before .args .m) (c .before .before .before .before .before .args .fits) (c .before .before .before .before .before .args .known) (c .before .before .before .before .before .args .room) (is-yes (c .before .before .before .before .check .ensures) (c .before .before .before .is-refused .ensures) (c .before .before .if1 .left)) (c .before .if2 .left) (c .if3 .taken))
-
-returns-4 : tie.Need-returns-4
-returns-4 c = sym (past-names (c .before .before .before .before .before .before .args .m) (c .before .before .before .before .before .before .args .fits) (c .before .before .before .before .before .before .args .known) (c .before .before .before .before .before .before .args .room) (is-yes (c .before .before .before .before .before .check .ensures) (c .before .before .before .before .is-refused .ensures) (c .before .before .before .if1 .left)) (c .before .before .if2 .left) (c .before .if3 .left) ∙ cond-yes _ _ (c .if4 .taken))
-
-returns-5 : tie.Need-returns-5
-returns-5 c = sym (past-names (c .before .before .before .before .before .before .args .m) (c .before .before .before .before .before .before .args .fits) (c .before .before .before .before .before .before .args .known) (c .before .before .before .before .before .before .args .room) (is-yes (c .before .before .before .before .before .check .ensures) (c .before .before .before .before .is-refused .ensures) (c .before .before .before .if1 .left)) (c .before .before .if2 .left) (c .before .if3 .left) ∙ cond-no _ _ (c .if4 .left))
+returns c = ?
 
 pub call-checked-spec : {M : Type 1} → statement M
-call-checked-spec =
-    tie.close
-    (tie.spec check-requires is-refused-requires returns returns-2 returns-3 returns-4 returns-5)
+call-checked-spec = tie.close (tie.spec check-requires then-called-requires returns)

@@ -1,4 +1,3 @@
-use Rattle.mechanism.specs.Check.{limitPassed}
 use borrow.Author.Needs.{needs}
 use Rattle.mechanism.proofs.check.limit_passed.Statement.{statement}
 use Rattle.mechanism.proofs.check.limit_passed.Tie as tie
@@ -10,8 +9,12 @@ pairs-over-requires : tie.Need-pairs-over-requires
 pairs-over-requires c κs = search needs
 
 returns : tie.Need-returns
-unfolding limitPassed
 returns c = simp (c .pairs-over .ensures, c .before .parts-over .ensures)
 
 pub limit-passed-spec : {M : Type 1} → statement M
-limit-passed-spec = tie.close (tie.spec parts-over-requires pairs-over-requires returns)
+limit-passed-spec =
+    tie.close
+    (tie.spec
+    parts-over-requires
+    pairs-over-requires
+    returns)

@@ -1,26 +1,32 @@
 use borrow.Author.Needs.{needs}
 use native.Mathlib.Omega.{arith}
-use Prim.Native.Nat.{_+_, _%_, _≤_, _-_}
+use Prim.Native.Nat.{ℕ, _+_, _%_, _≤_, _-_}
 use native.Mathlib.Nat.{sub-zero, mod-lt}
-use mathlib.Core.Path.{_≡_, sym, _∙_}
-use mathlib.Core.List.{[]}
-use lib.ListN.{getD}
+use mathlib.Core.Bool.{Bool}
+use mathlib.Core.List.{List}
+use mathlib.Core.Path.{_≡_, sym, ap₂, _∙_}
+use lib.Ieee.{Float}
 use borrow.Author.Tests.{lt-ltb, le-ltb}
 use Rattle.laws.proofs.Choice.{or-yes, or-no}
 use Rattle.laws.specs.Loops.{anyIn}
 use Rattle.laws.proofs.Loops.{any-yes, any-no, any-done}
-use Rattle.mechanism.specs.Ends.{rowOpen, endsOpen}
+use Rattle.mechanism.specs.Description.{segAt}
+use Rattle.mechanism.specs.Check.{segOpen, outlineOpen}
+use Rattle.mechanism.specs.Segments.{outlinesIn}
 use Rattle.mechanism.proofs.check.outline_open.Statement.{statement}
 use Rattle.mechanism.proofs.check.outline_open.Tie as tie
 
+abbrev anyOpen : List (List Float) → ℕ → ℕ → ℕ → ℕ → Bool
+anyOpen segs at n = anyIn (λ k. segOpen (segAt (outlinesIn segs) (at + k)) (segAt (outlinesIn segs) (at + (k + 1) % n)))
+
 abbrev Inv-loop : tie.InvT-loop
-Inv-loop ends at n i₀ i = (i ≤ n) × (anyIn (λ k. rowOpen (getD ends (at + k) []) (getD ends (at + (k + 1) % n) [])) (n - i) i ≡ anyIn (λ k. rowOpen (getD ends (at + k) []) (getD ends (at + (k + 1) % n) [])) n 0)
+Inv-loop segs at n i₀ i = (i ≤ n) × (anyOpen segs at n (n - i) i ≡ anyOpen segs at n n 0)
 
 abbrev μ-loop : tie.MeasureT-loop
-μ-loop ends at n i₀ i = n - i
+μ-loop segs at n i₀ i = n - i
 
 returns : tie.Need-returns Inv-loop μ-loop
-unfolding endsOpen
+unfolding outlineOpen
 returns c = sym (or-yes _ (lt-ltb _ _ (c .if1 .taken)))
 
 loop-holds : tie.Need-loop-holds Inv-loop μ-loop
@@ -32,23 +38,17 @@ add-k c = omega arith
 rem-k : tie.Need-rem-k Inv-loop μ-loop
 rem-k c = omega arith
 
-add-is-open : tie.Need-add-is-open Inv-loop μ-loop
-add-is-open c = omega arith
+add-seg-at : tie.Need-add-seg-at Inv-loop μ-loop
+add-seg-at c = omega arith
 
-mul-is-open : tie.Need-mul-is-open Inv-loop μ-loop
-mul-is-open c = omega arith
+seg-at-requires : tie.Need-seg-at-requires Inv-loop μ-loop
+seg-at-requires c κs = search needs
 
-shared-slice-copy-out-is-open : tie.Need-shared-slice-copy-out-is-open Inv-loop μ-loop
-shared-slice-copy-out-is-open c = omega arith
+add-seg-at-2 : tie.Need-add-seg-at-2 Inv-loop μ-loop
+add-seg-at-2 c = let h = mod-lt (c .before .before .loop .i + 1) {m = c .before .before .before .before .args .n} (omega arith) in omega arith
 
-add-is-open-2 : tie.Need-add-is-open-2 Inv-loop μ-loop
-add-is-open-2 c = let h = mod-lt (c .before .before .loop .i + 1) {m = c .before .before .before .before .args .n} (omega arith) in omega arith
-
-mul-is-open-2 : tie.Need-mul-is-open-2 Inv-loop μ-loop
-mul-is-open-2 c = let h = mod-lt (c .before .before .loop .i + 1) {m = c .before .before .before .before .args .n} (omega arith) in omega arith
-
-shared-slice-copy-out-is-open-2 : tie.Need-shared-slice-copy-out-is-open-2 Inv-loop μ-loop
-shared-slice-copy-out-is-open-2 c = let h = mod-lt (c .before .before .loop .i + 1) {m = c .before .before .before .before .args .n} (omega arith) in omega arith
+seg-at-requires-2 : tie.Need-seg-at-requires-2 Inv-loop μ-loop
+seg-at-requires-2 c κs = search needs
 
 is-open-requires : tie.Need-is-open-requires Inv-loop μ-loop
 is-open-requires c κs = search needs
@@ -57,17 +57,17 @@ add-i : tie.Need-add-i Inv-loop μ-loop
 add-i c = omega arith
 
 returns-2 : tie.Need-returns-2 Inv-loop μ-loop
-unfolding endsOpen
-returns-2 c = sym (or-no _ (le-ltb _ _ (c .before .before .before .before .before .before .if1 .left)) ∙ sym (c .before .before .before .before .before .loop .inv .1) ∙ any-yes _ _ (c .before .before .before .before .before .loop .i) (c .before .before .before .before .loop-test .taken) (sym (c .before .is-open .ensures) ∙ c .if2 .taken))
+unfolding outlineOpen
+returns-2 c = sym (or-no _ (le-ltb _ _ (c .before .before .before .before .before .before .if1 .left)) ∙ sym (c .before .before .before .before .before .loop .inv .1) ∙ any-yes _ _ (c .before .before .before .before .before .loop .i) (c .before .before .before .before .loop-test .taken) (ap₂ segOpen (sym (c .before .before .before .seg-at .ensures)) (sym (c .before .before .seg-at2 .ensures)) ∙ sym (c .before .is-open .ensures) ∙ c .if2 .taken))
 
 loop-less : tie.Need-loop-less Inv-loop μ-loop
 loop-less c = omega arith
 
 loop-again : tie.Need-loop-again Inv-loop μ-loop
-loop-again c = (omega arith, sym (any-no _ _ (c .before .before .before .before .before .loop .i) (c .before .before .before .before .loop-test .taken) (sym (c .before .is-open .ensures) ∙ c .if2 .left)) ∙ c .before .before .before .before .before .loop .inv .1)
+loop-again c = (omega arith, sym (any-no _ _ (c .before .before .before .before .before .loop .i) (c .before .before .before .before .loop-test .taken) (ap₂ segOpen (sym (c .before .before .before .seg-at .ensures)) (sym (c .before .before .seg-at2 .ensures)) ∙ sym (c .before .is-open .ensures) ∙ c .if2 .left)) ∙ c .before .before .before .before .before .loop .inv .1)
 
 returns-3 : tie.Need-returns-3 Inv-loop μ-loop
-unfolding endsOpen
+unfolding outlineOpen
 returns-3 c = sym (or-no _ (le-ltb _ _ (c .before .before .if1 .left)) ∙ sym (c .before .loop .inv .1) ∙ any-done _ _ (c .before .loop .i) (c .loop-test .left))
 
 pub outline-open-spec : {M : Type 1} → statement M
@@ -80,12 +80,10 @@ outline-open-spec =
     loop-holds
     add-k
     rem-k
-    add-is-open
-    mul-is-open
-    shared-slice-copy-out-is-open
-    add-is-open-2
-    mul-is-open-2
-    shared-slice-copy-out-is-open-2
+    add-seg-at
+    seg-at-requires
+    add-seg-at-2
+    seg-at-requires-2
     is-open-requires
     add-i
     returns-2

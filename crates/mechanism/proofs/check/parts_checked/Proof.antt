@@ -1,33 +1,96 @@
-use Rattle.mechanism.proofs.Ends.{parts-read}
 use borrow.Author.Needs.{needs}
+use native.Mathlib.Omega.{arith}
+use Prim.Native.Nat.{ℕ, _+_, _≤_, _-_}
+use native.Mathlib.Nat.{sub-zero}
+use mathlib.Core.List.{List}
+use mathlib.Core.Path.{_≡_, refl, sym, ap, _∙_}
+use lib.Ieee.{Float}
+use Rattle.laws.specs.Loops.{foldIn}
+use Rattle.laws.proofs.Choice.{not-yes, not-no}
+use Rattle.laws.proofs.Loops.{first-hit, first-miss, first-done}
+use Rattle.laws.proofs.Sums.{sum-more}
+use Rattle.bodies.specs.Check.{firstRefused}
+use Rattle.bodies.specs.declared.Checked.{Checked}
+use Rattle.mechanism.specs.Description.{partAt, segsOf, startOfPart}
+use Rattle.mechanism.specs.Check.{partChecked, partsChecked}
+use Rattle.mechanism.specs.Segments.{outlinesIn}
+use Rattle.mechanism.specs.declared.Parts.{Parts}
 use Rattle.mechanism.proofs.check.parts_checked.Statement.{statement}
 use Rattle.mechanism.proofs.check.parts_checked.Tie as tie
 
-slice-aggregate-put-ends : tie.Need-slice-aggregate-put-ends
-slice-aggregate-put-ends c = search needs
+abbrev first : ℕ → Parts → List (List Float) → ℕ → ℕ → Checked
+first bodies p segs = firstRefused (λ k. partChecked bodies (outlinesIn segs) (partAt p k) (startOfPart p k) k)
 
-segs-in-all-requires : tie.Need-segs-in-all-requires
-segs-in-all-requires c κs = search needs
+abbrev Inv-loop : tie.InvT-loop
+Inv-loop bodies segs p n at₀ i₀ at i = (i ≤ p .count) × (at ≡ startOfPart p i) × (first bodies p segs (p .count - i) i ≡ first bodies p segs (p .count) 0)
 
-put-ends-requires : tie.Need-put-ends-requires
-put-ends-requires c κs = search needs
+abbrev μ-loop : tie.MeasureT-loop
+μ-loop bodies segs p n at₀ i₀ at i = p .count - i
 
-slice-aggregate-each-checked : tie.Need-slice-aggregate-each-checked
-slice-aggregate-each-checked c = search needs
+loop-holds : tie.Need-loop-holds Inv-loop μ-loop
+unfolding foldIn
+loop-holds c = (omega arith, refl, simp sub-zero)
 
-each-checked-requires : tie.Need-each-checked-requires
-each-checked-requires c κs = search needs
+mul-q : tie.Need-mul-q Inv-loop μ-loop
+mul-q c = let h = c .before .before .pre .count in omega arith
 
-returns : tie.Need-returns
-returns c = parts-read (c .before .before .before .before .before .before .args .bodies) (c .before .before .before .before .before .before .args .p) (c .before .before .before .before .segs-in-all .ensures) (c .before .before .before .put-ends .ensures .0) (c .each-checked .ensures)
+element-copy-out-q : tie.Need-element-copy-out-q Inv-loop μ-loop
+element-copy-out-q c = let h = c .before .before .pre .count in omega arith
+
+part-checked-requires : tie.Need-part-checked-requires Inv-loop μ-loop
+part-checked-requires c κs =
+    let h = c .before .before .before .pre .all (c .before .before .loop .i) (c .before .loop-test .taken) in
+    let e = c .before .before .loop .inv .1 in
+    (omega arith, c .before .before .before .pre .each (c .before .before .loop .i) (c .before .loop-test .taken))
+
+add-at : tie.Need-add-at Inv-loop μ-loop
+add-at c =
+    let h = c .before .before .before .before .before .pre .all (c .before .before .before .before .loop .i) (c .before .before .before .loop-test .taken) in
+    let e = c .before .before .before .before .loop .inv .1 in
+    omega arith
+
+add-i : tie.Need-add-i Inv-loop μ-loop
+add-i c = let h = c .before .before .before .before .before .pre .count in omega arith
+
+is-refused-requires : tie.Need-is-refused-requires Inv-loop μ-loop
+is-refused-requires c κs = search needs
+
+returns : tie.Need-returns Inv-loop μ-loop
+unfolding partsChecked
+returns c =
+    let s = c .before .before .before .before .before .before .before in
+    let l = c .before .before .before .before .before .before .loop in
+    sym (sym (l .inv .2) ∙ first-hit _ _ _ _ (l .i) (c .before .before .before .before .before .loop-test .taken) (sym (c .before .before .before .part-checked .ensures ∙ ap (λ (n : ℕ). partChecked (s .args .bodies) (outlinesIn (s .args .segs .now)) (partAt (s .args .t2) (l .i)) n (l .i)) (l .inv .1))) (not-yes _ (sym (c .before .is-refused .ensures) ∙ c .if1 .taken)))
+
+loop-less : tie.Need-loop-less Inv-loop μ-loop
+loop-less c = omega arith
+
+loop-again : tie.Need-loop-again Inv-loop μ-loop
+loop-again c =
+    let s = c .before .before .before .before .before .before .before in
+    let l = c .before .before .before .before .before .before .loop in
+    (omega arith,
+    ap (λ (n : ℕ). n + segsOf (s .args .t2) (l .i)) (l .inv .1) ∙ sym (sum-more (segsOf (s .args .t2)) (l .i)),
+    sym (first-miss _ _ _ _ (l .i) (c .before .before .before .before .before .loop-test .taken) (sym (c .before .before .before .part-checked .ensures ∙ ap (λ (n : ℕ). partChecked (s .args .bodies) (outlinesIn (s .args .segs .now)) (partAt (s .args .t2) (l .i)) n (l .i)) (l .inv .1))) (not-no _ (sym (c .before .is-refused .ensures) ∙ c .if1 .left))) ∙ l .inv .2)
+
+returns-2 : tie.Need-returns-2 Inv-loop μ-loop
+unfolding partsChecked
+returns-2 c = sym (sym (c .before .loop .inv .2) ∙ first-done _ _ _ _ (c .before .loop .i) (c .loop-test .left))
 
 pub parts-checked-spec : {M : Type 1} → statement M
 parts-checked-spec =
     tie.close
     (tie.spec
-    slice-aggregate-put-ends
-    segs-in-all-requires
-    put-ends-requires
-    slice-aggregate-each-checked
-    each-checked-requires
-    returns)
+    Inv-loop
+    μ-loop
+    loop-holds
+    mul-q
+    element-copy-out-q
+    part-checked-requires
+    add-at
+    add-i
+    is-refused-requires
+    returns
+    loop-less
+    loop-again
+    returns-2)
