@@ -152,23 +152,34 @@ module _ (c : Checked) (fits known room : Bool) where
   abbrev fromPose : Checked
   fromPose = andThen (refusedIf (not fits) PoseNotMatching) fromNames
 
-  pub at-description : isAccepted c ≡ false → thenCalled c fits known room ≡ c
-  at-description e = stops c fromPose e
+  pub called-refused : isAccepted c ≡ false → thenCalled c fits known room ≡ c
+  called-refused e = stops c fromPose e
 
   past-description : isAccepted c ≡ true → thenCalled c fits known room ≡ fromPose
   past-description e = goes-on c fromPose e
 
-  pub at-pose : isAccepted c ≡ true → not fits ≡ true → thenCalled c fits known room ≡ Refused PoseNotMatching
-  at-pose e f = past-description e ∙ stops-if PoseNotMatching fromNames f
+  pub called-pose : isAccepted c ≡ true → not fits ≡ true → thenCalled c fits known room ≡ Refused PoseNotMatching
+  called-pose e f = past-description e ∙ stops-if PoseNotMatching fromNames f
 
-  pub past-pose : isAccepted c ≡ true → not fits ≡ false → thenCalled c fits known room ≡ fromNames
+  past-pose : isAccepted c ≡ true → not fits ≡ false → thenCalled c fits known room ≡ fromNames
   past-pose e f = past-description e ∙ goes-on-if PoseNotMatching fromNames f
 
-  pub at-names : isAccepted c ≡ true → not fits ≡ false → not known ≡ true → thenCalled c fits known room ≡ Refused NoSuchThing
-  at-names e f g = past-pose e f ∙ stops-if NoSuchThing fromRoom g
+  pub called-names : isAccepted c ≡ true → not fits ≡ false → not known ≡ true → thenCalled c fits known room ≡ Refused NoSuchThing
+  called-names e f g = past-pose e f ∙ stops-if NoSuchThing fromRoom g
 
-  pub past-names : isAccepted c ≡ true → not fits ≡ false → not known ≡ false → thenCalled c fits known room ≡ fromRoom
-  past-names e f g = past-pose e f ∙ goes-on-if NoSuchThing fromRoom g
+  pub called-room : isAccepted c ≡ true → not fits ≡ false → not known ≡ false → thenCalled c fits known room ≡ fromRoom
+  called-room e f g = past-pose e f ∙ goes-on-if NoSuchThing fromRoom g
+
+-- the same of a description
+module _ (m : Mechanism) (fits known room : Bool) where
+  pub at-description : isAccepted (checkOf m) ≡ false → callChecked m fits known room ≡ checkOf m
+  at-description = called-refused (checkOf m) fits known room
+
+  pub at-pose : isAccepted (checkOf m) ≡ true → not fits ≡ true → callChecked m fits known room ≡ Refused PoseNotMatching
+  at-pose = called-pose (checkOf m) fits known room
+
+  pub at-names : isAccepted (checkOf m) ≡ true → not fits ≡ false → not known ≡ true → callChecked m fits known room ≡ Refused NoSuchThing
+  at-names = called-names (checkOf m) fits known room
 
 -- ---- what an accepted description is known to be
 -- a call that is not refused: its description is accepted, and all that it asks for is there

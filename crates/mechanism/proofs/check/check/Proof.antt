@@ -29,7 +29,13 @@ check-in-requires c κs = search needs
 
 -- src/check.rt:528:1
 returns : tie.Need-returns
-returns c = ?
+returns c =
+    let e = c .before .before .before .put-segs .ensures in
+    let f = c .check-in .ensures in
+    let g = c .before .before .before .before .before .segs .given in
+    let h = c .before .before .before .before .segs-counted .ensures in
+    let q = c .before .before .before .before .before .before .before .before .before .before .good in
+    ?
 
 pub check-spec : {M : Type 1} → statement M
 check-spec =

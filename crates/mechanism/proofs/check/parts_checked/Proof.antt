@@ -21,6 +21,11 @@ use Rattle.mechanism.proofs.check.parts_checked.Tie as tie
 abbrev first : ℕ → Parts → List (List Float) → ℕ → ℕ → Checked
 first bodies p segs = firstRefused (λ k. partChecked bodies (outlinesIn segs) (partAt p k) (startOfPart p k) k)
 
+-- the part that is read starts where the parts before it end
+part-at : (bodies : ℕ) (segs : List (List Float)) (p : Parts) (i : ℕ) {at : ℕ} {c : Checked} → c ≡ partChecked bodies (outlinesIn segs) (partAt p i) at i → at ≡ startOfPart p i
+    → partChecked bodies (outlinesIn segs) (partAt p i) (startOfPart p i) i ≡ c
+part-at bodies segs p i e f = sym (e ∙ ap (λ (n : ℕ). partChecked bodies (outlinesIn segs) (partAt p i) n i) f)
+
 abbrev Inv-loop : tie.InvT-loop
 Inv-loop bodies segs p n at₀ i₀ at i = (i ≤ p .count) × (at ≡ startOfPart p i) × (first bodies p segs (p .count - i) i ≡ first bodies p segs (p .count) 0)
 
@@ -60,7 +65,7 @@ unfolding partsChecked
 returns c =
     let s = c .before .before .before .before .before .before .before in
     let l = c .before .before .before .before .before .before .loop in
-    sym (sym (l .inv .2) ∙ first-hit _ _ _ _ (l .i) (c .before .before .before .before .before .loop-test .taken) (sym (c .before .before .before .part-checked .ensures ∙ ap (λ (n : ℕ). partChecked (s .args .bodies) (outlinesIn (s .args .segs .now)) (partAt (s .args .t2) (l .i)) n (l .i)) (l .inv .1))) (not-yes _ (sym (c .before .is-refused .ensures) ∙ c .if1 .taken)))
+    sym (sym (l .inv .2) ∙ first-hit _ _ _ _ (l .i) (c .before .before .before .before .before .loop-test .taken) (part-at (s .args .bodies) (s .args .segs .now) (s .args .t2) (l .i) (c .before .before .before .part-checked .ensures) (l .inv .1)) (not-yes _ (sym (c .before .is-refused .ensures) ∙ c .if1 .taken)))
 
 loop-less : tie.Need-loop-less Inv-loop μ-loop
 loop-less c = omega arith
@@ -71,7 +76,7 @@ loop-again c =
     let l = c .before .before .before .before .before .before .loop in
     (omega arith,
     ap (λ (n : ℕ). n + segsOf (s .args .t2) (l .i)) (l .inv .1) ∙ sym (sum-more (segsOf (s .args .t2)) (l .i)),
-    sym (first-miss _ _ _ _ (l .i) (c .before .before .before .before .before .loop-test .taken) (sym (c .before .before .before .part-checked .ensures ∙ ap (λ (n : ℕ). partChecked (s .args .bodies) (outlinesIn (s .args .segs .now)) (partAt (s .args .t2) (l .i)) n (l .i)) (l .inv .1))) (not-no _ (sym (c .before .is-refused .ensures) ∙ c .if1 .left))) ∙ l .inv .2)
+    sym (first-miss _ _ _ _ (l .i) (c .before .before .before .before .before .loop-test .taken) (part-at (s .args .bodies) (s .args .segs .now) (s .args .t2) (l .i) (c .before .before .before .part-checked .ensures) (l .inv .1)) (not-no _ (sym (c .before .is-refused .ensures) ∙ c .if1 .left))) ∙ l .inv .2)
 
 returns-2 : tie.Need-returns-2 Inv-loop μ-loop
 unfolding partsChecked
