@@ -4,9 +4,13 @@ use native.Mathlib.Omega.{arith}
 use native.Mathlib.Nat.{mod-lt}
 use mathlib.Core.Path.{_≡_, refl, sym, ap, ap₂, subst, _∙_}
 use mathlib.Core.Bool.{Bool, true, false, _||_, cond}
+use mathlib.Core.List.{List}
 use lib.Dec.{ltb}
+use lib.Ieee.{Float}
+use lib.ListN.{length}
+use lib.Seq.{sets}
 use Rattle.laws.specs.Loops.{anyIn, firstIn}
-use Rattle.laws.proofs.Choice.{or-yes, cond-no}
+use Rattle.laws.proofs.Choice.{or-yes, cond-yes, cond-no}
 use Rattle.laws.proofs.Sums.{sum-part}
 use Rattle.bodies.specs.Check.{isAccepted, andThen, refusedIf, firstRefused, bodiesChecked}
 use Rattle.bodies.specs.declared.Checked.{Checked}
@@ -14,11 +18,12 @@ use Rattle.bodies.specs.declared.Checked.the-variants.{Accepted}
 use Rattle.bodies.specs.declared.Problem.the-variants.{LimitPassed, NoDirection, PartOnNoSuchBody, OutlineNotClosed}
 use Rattle.mechanism.specs.Description.{partAt, segsOf, startOfPart}
 use Rattle.mechanism.specs.Check.{partsOver, pairsOver, limitPassed, segLacks, bodiesLack, partsLack, outlinesLack, segOpen, outlineOpen, partsChecked, pairsChecked, checkOf}
-use Rattle.mechanism.specs.Segments.{segsCounted, SameSegs}
+use Rattle.mechanism.specs.Segments.{outlinesIn, described, segRows, segsFit, segsCounted, SameSegs}
 use Rattle.mechanism.specs.declared.Mechanism.{Mechanism}
 use Rattle.mechanism.specs.declared.Outlines.{Outlines}
 use Rattle.mechanism.specs.declared.Parts.{Parts}
 use Rattle.mechanism.proofs.Checks.{at-limits}
+use Rattle.mechanism.proofs.SegRows.{same-segs, fits-here}
 
 -- ---- indexes on which two functions agree
 any-range : (p q : ℕ → Bool) (k j : ℕ) → ((i : ℕ) → i < j + k → p i ≡ q i) → anyIn p k j ≡ anyIn q k j
@@ -87,3 +92,15 @@ module _ (m : Mechanism) (o : Outlines) where
       go : (t : Bool) → partsOver (m .parts) ≡ t → checkOf withOutlines ≡ checkOf m
       go true e = over-same e
       go false e = whole-same (subst (λ (n : ℕ). SameSegs n o (m .outlines)) (cond-no 0 (startOfPart (m .parts) (m .parts .count)) e) s)
+
+-- rows into which the counted segments were put are checked as the description
+pub check-put : (m : Mechanism) (l : List (List Float)) {n : ℕ} {rows : List (List Float)} {c : Checked} → length (m .outlines .seg) ≡ 384 → length l ≡ 384
+    → (n ≡ segsCounted (m .parts)) × (n ≤ 384) → rows ≡ cond (segsFit n (length l)) (sets l 0 (segRows (m .outlines) n)) l
+    → c ≡ checkOf (described (m .bodies) (m .parts) rows (m .pairs)) → c ≡ checkOf m
+check-put m l {n} {rows} long room few put e = e ∙ check-same m (outlinesIn rows) (subst (λ (k : ℕ). SameSegs k (outlinesIn rows) (m .outlines)) (few .0) same)
+  where
+    put-here : rows ≡ sets l 0 (segRows (m .outlines) n)
+    put-here = put ∙ cond-yes _ _ (fits-here n (length l) (few .1) (omega arith))
+
+    same : SameSegs n (outlinesIn rows) (m .outlines)
+    same = subst (λ (r : List (List Float)). SameSegs n (outlinesIn r) (m .outlines)) (sym put-here) (same-segs (m .outlines) n (omega arith) l (omega arith))

@@ -1,41 +1,31 @@
+use mathlib.Core.Path.{refl}
+use lib.ListN.{replicate}
+use Rattle.ieee.specs.Consts.{zeroF}
+use Rattle.mechanism.proofs.Known.{description-long}
+use Rattle.mechanism.proofs.SameCheck.{check-put}
 use borrow.Author.Needs.{needs}
 use Rattle.mechanism.proofs.check.check.Statement.{statement}
 use Rattle.mechanism.proofs.check.check.Tie as tie
-use Rattle.mechanism.proofs.check.check.Reads as reads
-use Rattle.mechanism.proofs.check.check.Lts as lts
-use Rattle.mechanism.proofs.check.check_in.Reads as check-in-reads
-use Rattle.mechanism.proofs.check.segs_counted.Reads as segs-counted-reads
-use Rattle.mechanism.proofs.segments.put_segs.Reads as put-segs-reads
 
--- src/check.rt:536:14
 slice-aggregate-put-segs : tie.Need-slice-aggregate-put-segs
 slice-aggregate-put-segs c = search needs
 
--- src/check.rt:536:28
 segs-counted-requires : tie.Need-segs-counted-requires
 segs-counted-requires c κs = search needs
 
--- src/check.rt:536:5
 put-segs-requires : tie.Need-put-segs-requires
 put-segs-requires c κs = search needs
 
--- src/check.rt:537:20
 slice-aggregate-check-in : tie.Need-slice-aggregate-check-in
 slice-aggregate-check-in c = search needs
 
--- src/check.rt:537:5
 check-in-requires : tie.Need-check-in-requires
 check-in-requires c κs = search needs
 
--- src/check.rt:528:1
 returns : tie.Need-returns
 returns c =
-    let e = c .before .before .before .put-segs .ensures in
-    let f = c .check-in .ensures in
-    let g = c .before .before .before .before .before .segs .given in
-    let h = c .before .before .before .before .segs-counted .ensures in
-    let q = c .before .before .before .before .before .before .before .before .before .before .good in
-    ?
+    let s = c .before .before .before .before .before .before .before .before .before .before in
+    check-put (s .args .m) (replicate 384 (replicate 8 zeroF)) (description-long (s .args .m) _ (s .good .0)) refl (c .before .before .before .before .segs-counted .ensures) (c .before .before .before .put-segs .ensures) (c .check-in .ensures)
 
 pub check-spec : {M : Type 1} → statement M
 check-spec =
