@@ -11,7 +11,6 @@ use Rattle.mechanism.proofs.part.OutlineSeg as G
 use Rattle.mechanism.proofs.Outlines as A
 use Rattle.mechanism.proofs.Mechanism as M
 
-
 pub outlines-long : (s : Outlines) (vs : List Val) → Is A.the-row s vs → length (s .seg) ≡ 384
 outlines-long s vs p = array-length G.the-field 384 (s .seg) _ (p .1 .1 .0)
 

@@ -70,7 +70,7 @@ over-limit m e = late (ltb 15 (m .bodies .count) || ltb 16 (m .bodies .coords))
     late false = or-yes (pairsOver (m .pairs)) e
 
 module _ (m : Mechanism) (o : Outlines) where
-  abbrev withOutlines : Mechanism
+  abbrev pub withOutlines : Mechanism
   withOutlines = record { bodies = m .bodies; parts = m .parts; outlines = o; pairs = m .pairs }
 
   whole-same : SameSegs (startOfPart (m .parts) (m .parts .count)) o (m .outlines) → checkOf withOutlines ≡ checkOf m

@@ -73,10 +73,11 @@ loop-less c = omega arith
 loop-again : tie.Need-loop-again Inv-loop μ-loop
 loop-again c =
     let s = c .before .before .before .before .before .before .before in
-    let l = c .before .before .before .before .before .before .loop in
-    (omega arith,
-    ap (λ (n : ℕ). n + segsOf (s .args .t2) (l .i)) (l .inv .1) ∙ sym (sum-more (segsOf (s .args .t2)) (l .i)),
-    sym (first-miss _ _ _ _ (l .i) (c .before .before .before .before .before .loop-test .taken) (part-at (s .args .bodies) (s .args .segs .now) (s .args .t2) (l .i) (c .before .before .before .part-checked .ensures) (l .inv .1)) (not-no _ (sym (c .before .is-refused .ensures) ∙ c .if1 .left))) ∙ l .inv .2)
+    let l = c .before .before .before .before .before .before .loop in (
+      omega arith,
+      ap (λ (n : ℕ). n + segsOf (s .args .t2) (l .i)) (l .inv .1) ∙ sym (sum-more (segsOf (s .args .t2)) (l .i)),
+      sym (first-miss _ _ _ _ (l .i) (c .before .before .before .before .before .loop-test .taken) (part-at (s .args .bodies) (s .args .segs .now) (s .args .t2) (l .i) (c .before .before .before .part-checked .ensures) (l .inv .1)) (not-no _ (sym (c .before .is-refused .ensures) ∙ c .if1 .left))) ∙ l .inv .2,
+    )
 
 returns-2 : tie.Need-returns-2 Inv-loop μ-loop
 unfolding partsChecked
