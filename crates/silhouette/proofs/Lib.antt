@@ -1,3 +1,4 @@
 pub mod Known
 pub mod Walks
 pub mod Lengths
+pub mod BySegment

@@ -29,7 +29,7 @@ abbrev pub held : ℕ → List OutlineSeg → List Seg
 held n segs = map segOf (take n segs)
 
 -- of a place that there is, what stands past the end is not asked
-getD-any : {A : Type 0} (l : List A) (i : ℕ) (d e : A) → i < length l → getD l i d ≡ getD l i e
+pub getD-any : {A : Type 0} (l : List A) (i : ℕ) (d e : A) → i < length l → getD l i d ≡ getD l i e
 getD-any [] i d e h = absurd (omega arith)
 getD-any (x ∷ l) zero d e h = refl
 getD-any (x ∷ l) (suc i) d e h = getD-any l i d e (omega arith)

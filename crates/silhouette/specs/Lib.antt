@@ -1,1 +1,2 @@
 pub mod Silhouette
+pub mod Rows

@@ -16,10 +16,11 @@ use Rattle.geometry.specs.declared.Dir.{Dir}
 use Rattle.geometry.specs.declared.Seg.{Seg}
 use Rattle.geometry.specs.declared.Seg.the-variants.{Line, Arc}
 use Rattle.mechanism.specs.Check.{samePoint, partsOver}
-use Rattle.mechanism.specs.Description.{partAt, segsOf, startOfPart}
+use Rattle.mechanism.specs.Description.{partAt, segsOf, startOfPart, silhouetteLength}
 use Rattle.mechanism.specs.declared.Parts.{Parts}
 use Rattle.mechanism.specs.declared.Outlines.{Outlines}
 use Rattle.mechanism.specs.declared.part.OutlineSeg.{OutlineSeg}
+use Rattle.mechanism.specs.declared.part.Part.{Part}
 use Rattle.mechanism.specs.declared.part.Sweep.{Sweep}
 use Rattle.mechanism.specs.declared.part.Sweep.the-variants.{Extruded, Revolved, Milled, Oval}
 use Rattle.silhouette.specs.declared.MaybeAxis.{MaybeAxis}
@@ -132,9 +133,20 @@ asSilhouette l = record { count = length l; seg = filled 94 (boxed noLine) (map 
 abbrev pub isPart : Parts → ℕ → Bool
 isPart ps i = not (partsOver ps) && ltb i (ps .count)
 
+-- n segments from the one numbered `first` on, and what the section sees of a part with these
+abbrev pub outlineFrom : Outlines → ℕ → ℕ → List Seg
+outlineFrom o first n = map segOf (take n (drop first (o .seg)))
+
+abbrev pub silhouetteFrom : Outlines → ℕ → Part → List Seg
+silhouetteFrom o first p = silhouetteOf (p .sweep) (outlineFrom o first (p .segs))
+
+-- how many segments that has; none where the part passes a limit
+abbrev pub silhouetteCount : Part → ℕ
+silhouetteCount p = cond (leb (p .segs) 48) (silhouetteLength (p .sweep) (p .segs)) 0
+
 -- a part's segments stand behind those of the parts before it
 unfoldable pub outlineOf : Parts → Outlines → ℕ → List Seg
-outlineOf ps o i = map segOf (take (segsOf ps i) (drop (startOfPart ps i) (o .seg)))
+outlineOf ps o i = outlineFrom o (startOfPart ps i) (segsOf ps i)
 
 -- none where there is no such part
 unfoldable pub silhouetteAt : Parts → Outlines → ℕ → List Seg
