@@ -10,15 +10,18 @@ use lib.ListN.{length, take, drop, getD, set, length-map, length-take}
 use lib.Seq.{sets, length-take-le, getD-take}
 use Rattle.laws.specs.Lists.{flat}
 use Rattle.laws.specs.Loops.{Writing}
+use Rattle.laws.proofs.Choice.{cond-yes}
 use Rattle.laws.proofs.Fill.{map-drop}
 use Rattle.laws.proofs.Lists.{flat-drop, flat-none, flat-short}
+use Rattle.laws.proofs.Sums.{sum-part}
 use Rattle.laws.proofs.Writing.{starts, puts, appends-map, ends, ends-count}
 use Rattle.geometry.specs.Geometry.{finer, popped, drawnOf, startOf, endOf}
 use Rattle.geometry.specs.declared.Drawn.{Drawn}
 use Rattle.geometry.specs.declared.Point.{Point}
 use Rattle.geometry.specs.declared.Seg.{Seg}
 use Rattle.geometry.specs.declared.Seg.the-variants.{Line, Arc}
-use Rattle.mechanism.specs.Description.{noSeg, partAt, segsOf, startOfPart, silhouetteLength}
+use Rattle.mechanism.specs.Check.{FewParts}
+use Rattle.mechanism.specs.Description.{partAt, segsOf, startOfPart, silhouetteLength}
 use Rattle.bodies.specs.Pose.{worldOf}
 use Rattle.mechanism.specs.declared.Outlines.{Outlines}
 use Rattle.mechanism.specs.declared.Parts.{Parts}
@@ -26,10 +29,10 @@ use Rattle.mechanism.specs.declared.part.Sweep.{Sweep}
 use Rattle.mechanism.specs.declared.part.Sweep.the-variants.{Extruded, Revolved, Milled, Oval}
 use Rattle.bodies.specs.declared.pose.Placement.{Placement}
 use Rattle.bodies.specs.declared.pose.Pose.{Pose}
-use Rattle.silhouette.specs.Silhouette.{segOf, noLine, segsIn, asSilhouette, isPart, outlineOf, silhouetteOf, silhouetteAt}
-use Rattle.silhouette.specs.declared.SilhouetteSegs.{SilhouetteSegs}
-use Rattle.silhouette.proofs.Walks.{held-long, held-at, segs-in, up-done}
-use Rattle.silhouette.proofs.Lengths.{silhouette-length, silhouette-few, part-of}
+use Rattle.silhouette.specs.Silhouette.{segOf, noLine, isPart, outlineOf, silhouetteOf, silhouetteAt, silhouetteFrom, silhouetteCount}
+use Rattle.silhouette.proofs.BySegment.{count-is}
+use Rattle.silhouette.proofs.Walks.{up-done}
+use Rattle.silhouette.proofs.Lengths.{silhouette-length, silhouette-few, part-of, is-part}
 use Rattle.drawing.specs.Drawing.{drawnPoints, placedOf, polygonOf, rowOf}
 use Rattle.drawing.specs.Samples.{endsOf, mouthRow}
 
@@ -67,58 +70,49 @@ pub rows-done : (g : Point → Point) (l : List Point) (n i : ℕ) → n ≤ len
 rows-done g l n i h k = ap (λ (m : List Point). map rowOf (map g m)) (up-done n i (take n l) (length-take-le n l h) k)
 
 -- ---- a loop over the segments of a silhouette
-module _ (sil : SilhouetteSegs) (i : ℕ) (l : sil .count ≤ length (sil .seg)) where
-  pub sil-long : length (segsIn sil) ≡ sil .count
-  sil-long = held-long (sil .count) (sil .seg) l
+module _ (l : List Seg) (i : ℕ) where
+  pub ends-turn : {s : Seg} {a b : Point} → i < length l → s ≡ getD l i noLine → a ≡ startOf s → b ≡ endOf s
+      → map mouthRow (map endsOf (drop i l)) ≡ mouthRow (record { a = a; b = b }) ∷ map mouthRow (map endsOf (drop (i + 1) l))
+  ends-turn h e f g =
+      ap (map mouthRow) (map-drop endsOf l i noLine h ∙ ap (λ (s : Seg). endsOf s ∷ map endsOf (drop (i + 1) l)) (sym e))
+      ∙ ap₂ (λ (x y : Point). mouthRow (record { a = x; b = y }) ∷ map mouthRow (map endsOf (drop (i + 1) l))) (sym f) (sym g)
 
-  pub ends-turn : (a b : Point) → i < sil .count → a ≡ startOf (segOf (getD (sil .seg) i noSeg)) → b ≡ endOf (segOf (getD (sil .seg) i noSeg))
-      → map mouthRow (map endsOf (drop i (segsIn sil))) ≡ mouthRow (record { a = a; b = b }) ∷ map mouthRow (map endsOf (drop (i + 1) (segsIn sil)))
-  ends-turn a b h e f =
-      let k = sil-long in
-      ap (map mouthRow) (map-drop endsOf (segsIn sil) i noLine (omega arith) ∙ ap (λ (s : Seg). endsOf s ∷ map endsOf (drop (i + 1) (segsIn sil))) (held-at (sil .count) (sil .seg) i l h))
-      ∙ ap₂ (λ (x y : Point). mouthRow (record { a = x; b = y }) ∷ map mouthRow (map endsOf (drop (i + 1) (segsIn sil)))) (sym e) (sym f)
+  pub ends-done : length l ≤ i → map mouthRow (map endsOf (drop i l)) ≡ []
+  ends-done h = ap (λ (m : List Seg). map mouthRow (map endsOf m)) (up-done (length l) i l refl h)
 
-  pub ends-done : sil .count ≤ i → map mouthRow (map endsOf (drop i (segsIn sil))) ≡ []
-  ends-done h = ap (λ (m : List Seg). map mouthRow (map endsOf m)) (up-done (sil .count) i (segsIn sil) sil-long h)
+  flat-turn : {s : Seg} (g : Point → Point) (f : Seg → List Point) → i < length l → s ≡ getD l i noLine → map g (flat f (drop i l)) ≡ map g (f s) ++ map g (flat f (drop (i + 1) l))
+  flat-turn {s} g f h e = ap (map g) (flat-drop f l i noLine h ∙ ap (λ (s : Seg). f s ++ flat f (drop (i + 1) l)) (sym e)) ∙ map-append g (f s) (flat f (drop (i + 1) l))
 
-  pub flat-turn : (g : Point → Point) (f : Seg → List Point) → i < sil .count
-      → map g (flat f (drop i (segsIn sil))) ≡ map g (f (segOf (getD (sil .seg) i noSeg))) ++ map g (flat f (drop (i + 1) (segsIn sil)))
-  flat-turn g f h =
-      let k = sil-long in
-      ap (map g) (flat-drop f (segsIn sil) i noLine (omega arith) ∙ ap (λ (s : Seg). f s ++ flat f (drop (i + 1) (segsIn sil))) (held-at (sil .count) (sil .seg) i l h))
-      ∙ map-append g (f (segOf (getD (sil .seg) i noSeg))) (flat f (drop (i + 1) (segsIn sil)))
-
-  pub flat-end : (g : Point → Point) (f : Seg → List Point) → sil .count ≤ i → map rowOf (map g (flat f (drop i (segsIn sil)))) ≡ []
-  flat-end g f h = ap (λ (m : List Point). map rowOf (map g m)) (flat-none f (up-done (sil .count) i (segsIn sil) sil-long h))
+  flat-end : (g : Point → Point) (f : Seg → List Point) → length l ≤ i → map rowOf (map g (flat f (drop i l))) ≡ []
+  flat-end g f h = ap (λ (m : List Point). map rowOf (map g m)) (flat-none f (up-done (length l) i l refl h))
 
 -- Points of a silhouette's segments that a loop places and writes: those of the segments from i on are to come, b points each at most.
-pub record Places (b : ℕ) (f : Seg → List Point) (g : Point → Point) (sil : SilhouetteSegs) (out₀ : List (List Float)) (at₀ : ℕ) (out : List (List Float)) (at i : ℕ) : Type 0 where
-  pub far : i ≤ sil .count
+pub record Places (b : ℕ) (f : Seg → List Point) (g : Point → Point) (l : List Seg) (out₀ : List (List Float)) (at₀ : ℕ) (out : List (List Float)) (at i : ℕ) : Type 0 where
+  pub far : i ≤ length l
   pub room : at ≤ at₀ + b * i
-  pub rest : Writing out₀ at₀ (map rowOf (map g (flat f (segsIn sil)))) out at (map rowOf (map g (flat f (drop i (segsIn sil)))))
+  pub rest : Writing out₀ at₀ (map rowOf (map g (flat f l))) out at (map rowOf (map g (flat f (drop i l))))
 
-pub places-start : (b : ℕ) (f : Seg → List Point) (g : Point → Point) (sil : SilhouetteSegs) (out : List (List Float)) (at : ℕ) → Places b f g sil out at out at 0
-places-start b f g sil out at = record { far = omega arith; room = omega arith; rest = starts refl }
+pub places-start : (b : ℕ) (f : Seg → List Point) (g : Point → Point) (l : List Seg) (out : List (List Float)) (at : ℕ) → Places b f g l out at out at 0
+places-start b f g l out at = record { far = omega arith; room = omega arith; rest = starts refl }
 
-module _ {b : ℕ} {f : Seg → List Point} {g : Point → Point} {sil : SilhouetteSegs} {out₀ : List (List Float)} {at₀ : ℕ} {out : List (List Float)} {at i : ℕ} (l : sil .count ≤ length (sil .seg)) (p : Places b f g sil out₀ at₀ out at i) where
-  pub places-more : {out′ : List (List Float)} {at′ : ℕ} → i < sil .count → ((s : Seg) → length (f s) ≤ b)
-      → (at′ ≡ at + length (f (segOf (getD (sil .seg) i noSeg)))) × (out′ ≡ sets out at (map rowOf (map g (f (segOf (getD (sil .seg) i noSeg))))))
-      → Places b f g sil out₀ at₀ out′ at′ (i + 1)
-  places-more {out′} {at′} h short e =
-      let s = segOf (getD (sil .seg) i noSeg) in
+module _ {b : ℕ} {f : Seg → List Point} {g : Point → Point} {l : List Seg} {out₀ : List (List Float)} {at₀ : ℕ} {out : List (List Float)} {at i : ℕ} (p : Places b f g l out₀ at₀ out at i) where
+  pub places-more : {s : Seg} {out′ : List (List Float)} {at′ : ℕ} → i < length l → s ≡ getD l i noLine → ((s : Seg) → length (f s) ≤ b)
+      → (at′ ≡ at + length (f s)) × (out′ ≡ sets out at (map rowOf (map g (f s))))
+      → Places b f g l out₀ at₀ out′ at′ (i + 1)
+  places-more {s} {out′} {at′} h is short e =
       let n = short s in
       let r = p .room in
       let c = e .0 in
       record {
         far = omega arith;
         room = omega arith;
-        rest = appends-map rowOf (map g (f s)) (map g (flat f (drop (i + 1) (segsIn sil)))) (flat-turn sil i l g f h) (e .1) (e .0 ∙ ap (λ (k : ℕ). at + k) (sym (length-map (f s) g))) (p .rest);
+        rest = appends-map rowOf (map g (f s)) (map g (flat f (drop (i + 1) l))) (flat-turn l i g f h is) (e .1) (e .0 ∙ ap (λ (k : ℕ). at + k) (sym (length-map (f s) g))) (p .rest);
       }
 
-  pub places-end : sil .count ≤ i → (at ≡ at₀ + length (flat f (segsIn sil))) × (out ≡ sets out₀ at₀ (map rowOf (map g (flat f (segsIn sil)))))
+  pub places-end : length l ≤ i → (at ≡ at₀ + length (flat f l)) × (out ≡ sets out₀ at₀ (map rowOf (map g (flat f l))))
   places-end h =
-      let e = flat-end sil i l g f h in
-      (ends-count e (p .rest) ∙ ap (λ (k : ℕ). at₀ + k) (length-map (map g (flat f (segsIn sil))) rowOf ∙ length-map (flat f (segsIn sil)) g), ends e (p .rest))
+      let e = flat-end l i g f h in
+      (ends-count e (p .rest) ∙ ap (λ (k : ℕ). at₀ + k) (length-map (map g (flat f l)) rowOf ∙ length-map (flat f l) g), ends e (p .rest))
 
 -- ---- the silhouette of a part
 outline-short : (ps : Parts) (o : Outlines) (i : ℕ) → length (outlineOf ps o i) ≤ segsOf ps i
@@ -158,12 +152,22 @@ module _ (ps : Parts) (o : Outlines) (i : ℕ) where
           silhouette-few (partAt ps i .sweep) (outlineOf ps o i) (omega (arith, f, s))
       go false e = omega arith
 
-  -- as `silhouette_at` answers it
-  pub sil-segs : {r : SilhouetteSegs} → r ≡ asSilhouette (silhouetteAt ps o i) → segsIn r ≡ silhouetteAt ps o i
-  sil-segs e = ap segsIn e ∙ segs-in (silhouetteAt ps o i) silhouette-94
+-- part i as the code reads it: its segments start in row `first`
+module _ (ps : Parts) (o : Outlines) (i : ℕ) {first : ℕ} (few : FewParts ps) (h : i < ps .count) (e : first ≡ startOfPart ps i) where
+  pub from-part : silhouetteFrom o first (partAt ps i) ≡ silhouetteAt ps o i
+  unfolding silhouetteAt outlineOf
+  from-part = ap (λ (k : ℕ). silhouetteFrom o k (partAt ps i)) e ∙ sym (cond-yes _ _ (is-part ps i few h))
 
-  pub sil-count : {r : SilhouetteSegs} → r ≡ asSilhouette (silhouetteAt ps o i) → (r .count ≤ 94) × (r .count ≤ 2 * segsOf ps i)
-  sil-count e = subst (λ (s : SilhouetteSegs). (s .count ≤ 94) × (s .count ≤ 2 * segsOf ps i)) (sym e) (silhouette-94, silhouette-short)
+  module _ (long : startOfPart ps (ps .count) ≤ length (o .seg)) where
+    pub part-within : first + segsOf ps i ≤ length (o .seg)
+    part-within = let s = sum-part (segsOf ps) i (ps .count) (omega (arith, h)) in omega (arith, s, e, long)
+
+    pub part-counted : silhouetteCount (partAt ps i) ≤ 2 * segsOf ps i
+    part-counted =
+        let c = count-is o first (partAt ps i) (few .each i h) (let w = part-within in omega (arith, w)) in
+        let f = ap length from-part in
+        let s = silhouette-short ps o i in
+        omega (arith, c, f, s)
 
 pub polygon-short : (ps : Parts) (o : Outlines) (q : Pose) (i : ℕ) → length (polygonOf ps o q i) ≤ 16 * segsOf ps i
 unfolding polygonOf
@@ -193,12 +197,11 @@ drawn-end g {d} s {out₀} {out} {at} {k} e h l w =
     (omega (arith, h, l, x), ends z w ∙ ap (λ (y : Drawn). sets out₀ at (map rowOf (map g (take (y .count) (y .points))))) e)
 
 -- ---- what is written of a silhouette, said of its part
-pub of-part : (f : Seg → List Point) (ps : Parts) (o : Outlines) (q : Pose) (i : ℕ) (at : ℕ) (out₀ : List (List Float)) {sil : SilhouetteSegs} {place : Placement} {r : ℕ} {out : List (List Float)}
-    → sil ≡ asSilhouette (silhouetteAt ps o i) → place ≡ placedOf ps q i
-    → (r ≡ at + length (flat f (segsIn sil))) × (out ≡ sets out₀ at (map rowOf (map (worldOf place) (flat f (segsIn sil)))))
+pub of-part : (f : Seg → List Point) (ps : Parts) (o : Outlines) (q : Pose) (i : ℕ) (at : ℕ) (out₀ : List (List Float)) {l : List Seg} {place : Placement} {r : ℕ} {out : List (List Float)}
+    → l ≡ silhouetteAt ps o i → place ≡ placedOf ps q i
+    → (r ≡ at + length (flat f l)) × (out ≡ sets out₀ at (map rowOf (map (worldOf place) (flat f l))))
     → (r ≡ at + length (map (worldOf (placedOf ps q i)) (flat f (silhouetteAt ps o i)))) × (out ≡ sets out₀ at (map rowOf (map (worldOf (placedOf ps q i)) (flat f (silhouetteAt ps o i)))))
-of-part f ps o q i at out₀ e p w =
-    let s = sil-segs ps o i e in (
-      w .0 ∙ ap (λ (l : List Seg). at + length (flat f l)) s ∙ ap (λ (n : ℕ). at + n) (sym (length-map (flat f (silhouetteAt ps o i)) (worldOf (placedOf ps q i)))),
-      w .1 ∙ ap₂ (λ (x : Placement) (l : List Seg). sets out₀ at (map rowOf (map (worldOf x) (flat f l)))) p s,
-    )
+of-part f ps o q i at out₀ s p w = (
+  w .0 ∙ ap (λ (l : List Seg). at + length (flat f l)) s ∙ ap (λ (n : ℕ). at + n) (sym (length-map (flat f (silhouetteAt ps o i)) (worldOf (placedOf ps q i)))),
+  w .1 ∙ ap₂ (λ (x : Placement) (l : List Seg). sets out₀ at (map rowOf (map (worldOf x) (flat f l)))) p s,
+)

@@ -1,5 +1,5 @@
 -- The drawn material of parts at a pose (contact/rows.rs: `material`, `material_of`, `is_read`, `is_sampled`), and its polygons in lent arrays. Definitions only.
-use Prim.Native.Nat.{ℕ, _+_}
+use Prim.Native.Nat.{ℕ, _+_, _*_}
 use mathlib.Core.Bool.{Bool, true, false, not, _&&_, _||_, cond}
 use mathlib.Core.List.{List, [], _∷_, _++_, map}
 use lib.Dec.{eqb, leb}
@@ -12,6 +12,7 @@ use Rattle.geometry.specs.declared.Point.{Point}
 use Rattle.geometry.specs.declared.Seg.{Seg}
 use Rattle.mechanism.specs.Check.{partsOver}
 use Rattle.mechanism.specs.Description.{sumIn, partAt, rangeAt, segsOf}
+use Rattle.mechanism.specs.Segments.{segsCounted}
 use Rattle.bodies.specs.Pose.{placementAt, worldOf}
 use Rattle.mechanism.specs.declared.Outlines.{Outlines}
 use Rattle.mechanism.specs.declared.Parts.{Parts}
@@ -135,6 +136,14 @@ chosenCount c w k = sumIn (λ i. cond (chosenAs c w i) 1 0) k 0
 -- the arrays have room for any parts that pass no limit
 abbrev pub roomFor : Parts → ℕ → ℕ → Bool
 roomFor ps points starts = not (partsOver ps) && (leb 6144 points && leb 33 starts)
+
+-- so many points at most all polygons have
+abbrev pub drawnMost : Parts → ℕ
+drawnMost ps = 16 * segsCounted ps
+
+-- the arrays have room for these parts, and their segments stand in the rows
+abbrev pub roomFrom : Parts → ℕ → ℕ → ℕ → Bool
+roomFrom ps points starts segs = not (partsOver ps) && (leb (drawnMost ps) points && (leb 33 starts && leb (segsCounted ps) segs))
 
 abbrev pub countsOf : Bool → List (List Point) → List (List Point) → Polygons
 countsOf true solids cuts = record { solids = length solids; all = length solids + length cuts; points = length (flat same (solids ++ cuts)) }

@@ -1,5 +1,5 @@
 -- The points sampled along a part's silhouette, and the mouths of cuts (contact/rows.rs: `sunk`). Definitions only.
-use Prim.Native.Nat.{ℕ}
+use Prim.Native.Nat.{ℕ, _*_}
 use mathlib.Core.Bool.{Bool, not, _&&_, _||_, cond}
 use mathlib.Core.List.{List, [], _∷_, map}
 use lib.Dec.{leb}
@@ -15,11 +15,12 @@ use Rattle.geometry.specs.declared.Seg.{Seg}
 use Rattle.geometry.specs.declared.Seg.the-variants.{Line, Arc}
 use Rattle.mechanism.specs.Check.{partsOver, samePoint}
 use Rattle.mechanism.specs.Description.{partAt}
+use Rattle.mechanism.specs.Segments.{segsCounted}
 use Rattle.bodies.specs.Pose.{worldOf}
 use Rattle.mechanism.specs.declared.Outlines.{Outlines}
 use Rattle.mechanism.specs.declared.Parts.{Parts}
 use Rattle.bodies.specs.declared.pose.Pose.{Pose}
-use Rattle.silhouette.specs.Silhouette.{silhouetteAt, isPart}
+use Rattle.silhouette.specs.Silhouette.{silhouetteAt}
 use Rattle.material.specs.Material.{Edge}
 use Rattle.drawing.specs.Drawing.{isReadCut, drawnPoints, placedOf}
 
@@ -67,8 +68,6 @@ mouthIn l = record { a = record { x = getD l 0 nan; y = getD l 1 nan }; b = reco
 abbrev pub mouthsIn : List (List Float) → List Edge
 mouthsIn l = map mouthIn l
 
-abbrev pub mouthRoom : Parts → ℕ → Bool
-mouthRoom ps room = not (partsOver ps) && leb 768 room
-
-abbrev pub sampleRoom : Parts → ℕ → ℕ → Bool
-sampleRoom ps i room = isPart ps i && leb 1598 room
+-- the array has room for the mouths of these parts, and their segments stand in the rows
+abbrev pub mouthRoom : Parts → ℕ → ℕ → Bool
+mouthRoom ps room segs = not (partsOver ps) && (leb (2 * segsCounted ps) room && leb (segsCounted ps) segs)

@@ -7,10 +7,11 @@ ghost use lib.ListN.{length, take};
 ghost use lib.Seq.{sets};
 ghost use Rattle.laws.specs.Lists.{flat};
 ghost use Rattle.mechanism.specs.Check.{FewParts};
-ghost use Rattle.mechanism.specs.Description.{segsOf};
+ghost use Rattle.mechanism.specs.Description.{startOfPart};
+ghost use Rattle.mechanism.specs.Segments.{outlinesIn};
 ghost use Rattle.bodies.specs.Pose.{worldOf};
-ghost use Rattle.silhouette.specs.Silhouette.{segsIn};
-ghost use Rattle.drawing.specs.Drawing.{isCut, isSampled, isReadCut, drawnPoints, polygonOf, polygonsOf, bodyOfSide, isOwn, hasOwn, whatIs, sideChosen, chosenAs, solidsOf, cutsOf, chosenSegs, chosenCount, rowOf, rowsOf, endsFrom, startsOf, cursorAfter, roomFor, countsOf};
+ghost use Rattle.silhouette.specs.Silhouette.{silhouetteFrom, silhouetteCount};
+ghost use Rattle.drawing.specs.Drawing.{isCut, isSampled, isReadCut, drawnPoints, polygonsOf, bodyOfSide, isOwn, hasOwn, whatIs, sideChosen, chosenAs, solidsOf, cutsOf, chosenSegs, chosenCount, rowOf, rowsOf, endsFrom, startsOf, cursorAfter, roomFor, roomFrom, countsOf};
 
 pub mod prepared;
 pub mod samples;
@@ -25,15 +26,17 @@ use material::Spot;
 use mechanism::Outlines;
 use mechanism::Parts;
 use mechanism::check::parts_over;
+use mechanism::check::segs_counted;
 use mechanism::pair::Surface;
-use mechanism::part::OutlineSeg;
 use mechanism::part::Part;
 use mechanism::part::Role;
 use mechanism::part::SurfaceRef;
 use mechanism::part::Sweep;
-use silhouette::SilhouetteSegs;
+use mechanism::segments::SegRow;
+use mechanism::segments::put_segs;
 use silhouette::is_in_the_section;
-use silhouette::silhouette_at;
+use silhouette::rows::silhouette_count;
+use silhouette::rows::silhouette_seg;
 
 // What each part is to a material: 1 a solid of it, 2 a cut of it, 0 neither.
 pub struct Chosen {
@@ -194,31 +197,26 @@ fn draw_seg(points: &mut [Spot], at: usize, s: Seg, place: Placement) -> usize
     at + k
 }
 
-// Writes a silhouette's polygon, placed, from `at` on.
-fn draw_polygon(points: &mut [Spot], at: usize, sil: SilhouetteSegs, place: Placement) -> usize
-    requires { ⌜ (sil .count ≤ 94) × (at + 8 * sil .count ≤ length (now points)) ⌝ }
-    ensures { λ r. ⌜ (r ≡ at + length (flat drawnPoints (segsIn sil))) × (now (points .exit) ≡ sets (now (points .entry)) at (map rowOf (map (worldOf place) (flat drawnPoints (segsIn sil))))) ⌝ }
+// Writes the polygon of a part whose outline starts in row `first`, placed, from `at` on.
+fn draw_polygon(
+    points: &mut [Spot],
+    at: usize,
+    segs: &[SegRow],
+    first: usize,
+    p: Part,
+    place: Placement,
+) -> usize
+    requires { ⌜ (p .segs ≤ 48) × (first + p .segs ≤ length (now segs)) × (at + 8 * silhouetteCount p ≤ length (now points)) ⌝ }
+    ensures { λ r. ⌜ (r ≡ at + length (flat drawnPoints (silhouetteFrom (outlinesIn (now (segs .entry))) first p))) × (now (points .exit) ≡ sets (now (points .entry)) at (map rowOf (map (worldOf place) (flat drawnPoints (silhouetteFrom (outlinesIn (now (segs .entry))) first p))))) ⌝ }
 {
-    let n = sil.count;
+    let n = silhouette_count(p);
     let mut to = at;
     let mut i: usize = 0;
     while i < n {
-        let b = sil.seg[i];
-        let s = b.seg;
-        to = draw_seg(points, to, s, place);
+        to = draw_seg(points, to, silhouette_seg(segs, first, p, i), place);
         i += 1;
     }
     to
-}
-
-// Writes the polygon of part i.
-fn draw_part(points: &mut [Spot], at: usize, ps: Parts, o: Outlines, q: Pose, i: usize) -> usize
-    requires { ⌜ FewParts ps × (i < ps .count) × (at + 16 * segsOf ps i ≤ length (now points)) ⌝ }
-    ensures { λ r. ⌜ (r ≡ at + length (polygonOf ps o q i)) × (now (points .exit) ≡ sets (now (points .entry)) at (map rowOf (polygonOf ps o q i))) ⌝ }
-{
-    let p = ps.part[i];
-    let sil = silhouette_at(ps, o, i);
-    draw_polygon(points, at, sil, placement_at(q, p.body))
 }
 
 // Where the next polygon goes: behind `at` points and `count` polygons.
@@ -232,29 +230,73 @@ fn draw_all(
     points: &mut [Spot],
     starts: &mut [usize],
     ps: Parts,
-    o: Outlines,
+    segs: &[SegRow],
     q: Pose,
     c: Chosen,
     w: u8,
     from: Cursor,
 ) -> Cursor
-    requires { ⌜ FewParts ps × (from .at + 16 * chosenSegs ps c w (ps .count) ≤ length (now points)) × (from .count + chosenCount c w (ps .count) < length (now starts)) ⌝ }
-    ensures { λ r. ⌜ (r ≡ cursorAfter from (polygonsOf ps o q (chosenAs c w))) × (now (points .exit) ≡ sets (now (points .entry)) (from .at) (rowsOf (polygonsOf ps o q (chosenAs c w)))) × (now (starts .exit) ≡ sets (now (starts .entry)) (from .count + 1) (endsFrom (from .at) (polygonsOf ps o q (chosenAs c w)))) ⌝ }
+    requires { ⌜ FewParts ps × (startOfPart ps (ps .count) ≤ length (now segs)) × (from .at + 16 * chosenSegs ps c w (ps .count) ≤ length (now points)) × (from .count + chosenCount c w (ps .count) < length (now starts)) ⌝ }
+    ensures { λ r. ⌜ (r ≡ cursorAfter from (polygonsOf ps (outlinesIn (now (segs .entry))) q (chosenAs c w))) × (now (points .exit) ≡ sets (now (points .entry)) (from .at) (rowsOf (polygonsOf ps (outlinesIn (now (segs .entry))) q (chosenAs c w)))) × (now (starts .exit) ≡ sets (now (starts .entry)) (from .count + 1) (endsFrom (from .at) (polygonsOf ps (outlinesIn (now (segs .entry))) q (chosenAs c w)))) ⌝ }
 {
     let n = ps.count;
+    let mut first: usize = 0;
     let mut at = from.at;
     let mut k = from.count;
     let mut i: usize = 0;
     while i < n {
         let j = i;
+        let p = ps.part[j];
+        let f = first;
         i += 1;
+        first += p.segs;
         if c.what[j] == w {
-            at = draw_part(points, at, ps, o, q, j);
+            at = draw_polygon(points, at, segs, f, p, placement_at(q, p.body));
             k += 1;
             starts[k] = at;
         }
     }
     Cursor { at, count: k }
+}
+
+fn room_from(ps: Parts, points: usize, starts: usize, segs: usize) -> bool
+    ensures { λ r. ⌜ r ≡ roomFrom ps points starts segs ⌝ }
+{
+    let n = segs_counted(ps);
+    !parts_over(ps) & ((16 * n <= points) & ((33 <= starts) & (n <= segs)))
+}
+
+// Writes the polygons of the chosen parts, whose outlines stand in rows, the solids first, and where each of them starts; nothing where a limit is passed, the arrays are
+// too short or a segment is not there.
+pub fn draw_from(
+    points: &mut [Spot],
+    starts: &mut [usize],
+    ps: Parts,
+    segs: &[SegRow],
+    q: Pose,
+    c: Chosen,
+) -> Polygons
+    ensures { λ r. ⌜ (r ≡ countsOf (roomFrom ps (length (now (points .entry))) (length (now (starts .entry))) (length (now (segs .entry)))) (solidsOf ps (outlinesIn (now (segs .entry))) q c) (cutsOf ps (outlinesIn (now (segs .entry))) q c)) × (now (points .exit) ≡ cond (roomFrom ps (length (now (points .entry))) (length (now (starts .entry))) (length (now (segs .entry)))) (sets (now (points .entry)) 0 (rowsOf (solidsOf ps (outlinesIn (now (segs .entry))) q c ++ cutsOf ps (outlinesIn (now (segs .entry))) q c))) (now (points .entry))) × (now (starts .exit) ≡ cond (roomFrom ps (length (now (points .entry))) (length (now (starts .entry))) (length (now (segs .entry)))) (sets (now (starts .entry)) 0 (startsOf (solidsOf ps (outlinesIn (now (segs .entry))) q c ++ cutsOf ps (outlinesIn (now (segs .entry))) q c))) (now (starts .entry))) ⌝ }
+{
+    let n = points.len();
+    let m = starts.len();
+    let l = segs.len();
+    if room_from(ps, n, m, l) {
+        starts[0] = 0;
+        let first = Cursor { at: 0, count: 0 };
+        let solids = draw_all(points, starts, ps, segs, q, c, 1, first);
+        let all = draw_all(points, starts, ps, segs, q, c, 2, solids);
+        return Polygons {
+            solids: solids.count,
+            all: all.count,
+            points: all.at,
+        };
+    }
+    Polygons {
+        solids: 0,
+        all: 0,
+        points: 0,
+    }
 }
 
 fn room_for(ps: Parts, points: usize, starts: usize) -> bool
@@ -263,7 +305,7 @@ fn room_for(ps: Parts, points: usize, starts: usize) -> bool
     !parts_over(ps) & ((6144 <= points) & (33 <= starts))
 }
 
-// Writes the polygons of the chosen parts, the solids first, and where each of them starts; nothing where a limit is passed or the arrays are too short.
+// The same of outlines as a value; nothing where a limit is passed or the arrays are too short for any parts.
 pub fn draw(
     points: &mut [Spot],
     starts: &mut [usize],
@@ -277,15 +319,9 @@ pub fn draw(
     let n = points.len();
     let m = starts.len();
     if room_for(ps, n, m) {
-        starts[0] = 0;
-        let first = Cursor { at: 0, count: 0 };
-        let solids = draw_all(points, starts, ps, o, q, c, 1, first);
-        let all = draw_all(points, starts, ps, o, q, c, 2, solids);
-        return Polygons {
-            solids: solids.count,
-            all: all.count,
-            points: all.at,
-        };
+        let mut segs = [[0.0; 8]; 384];
+        put_segs(&mut segs, o, segs_counted(ps));
+        return draw_from(points, starts, ps, &segs, q, c);
     }
     Polygons {
         solids: 0,

@@ -2,47 +2,46 @@
 ghost use mathlib.Core.Path.{_≡_};
 ghost use mathlib.Core.Bool.{cond};
 ghost use mathlib.Core.List.{map};
-ghost use Prim.Native.Nat.{_+_, _*_, _<_, _≤_};
+ghost use Prim.Native.Nat.{_+_, _*_, _≤_};
 ghost use lib.ListN.{length};
 ghost use lib.Seq.{sets};
-ghost use Rattle.laws.specs.Lists.{listIn, flat};
+ghost use Rattle.laws.specs.Lists.{listIn};
 ghost use Rattle.mechanism.specs.Check.{FewParts};
+ghost use Rattle.mechanism.specs.Description.{startOfPart};
+ghost use Rattle.mechanism.specs.Segments.{outlinesIn};
 ghost use Rattle.bodies.specs.Pose.{worldOf};
-ghost use Rattle.silhouette.specs.Silhouette.{segsIn};
+ghost use Rattle.silhouette.specs.Silhouette.{silhouetteFrom, silhouetteCount};
 ghost use Rattle.drawing.specs.Drawing.{rowOf};
-ghost use Rattle.drawing.specs.Samples.{endsOf, mouthsOf, sameEnds, isMouth, onLine, samplePoints, samplesOf, partSamples, mouthRow, mouthsIn, mouthRoom, sampleRoom};
+ghost use Rattle.drawing.specs.Samples.{endsOf, mouthsOf, sameEnds, isMouth, onLine, samplePoints, samplesOf, mouthRow, mouthsIn, mouthRoom};
 use super::draw_seg;
 use super::is_read_cut;
 use bodies::pose::Placement;
-use bodies::pose::Pose;
-use bodies::pose::placement_at;
 use geometry::Point;
 use geometry::Seg;
 use material::Spot;
-use mechanism::Outlines;
 use mechanism::Parts;
 use mechanism::check::parts_over;
 use mechanism::check::same_point;
-use mechanism::part::OutlineSeg;
+use mechanism::check::segs_counted;
 use mechanism::part::Part;
-use silhouette::SilhouetteSegs;
-use silhouette::silhouette_at;
+use mechanism::segments::SegRow;
+use silhouette::rows::silhouette_count;
+use silhouette::rows::silhouette_seg;
 
 // The two ends of a segment of a cut.
 pub type Mouth = [f64; 4];
 
 // ---- mouths
 
-// Writes the ends of a silhouette's segments from `at` on.
-fn put_ends(mouths: &mut [Mouth], at: usize, sil: SilhouetteSegs) -> usize
-    requires { ⌜ (sil .count ≤ 94) × (at + sil .count ≤ length (now mouths)) ⌝ }
-    ensures { λ r. ⌜ (r ≡ at + length (segsIn sil)) × (now (mouths .exit) ≡ sets (now (mouths .entry)) at (map mouthRow (map endsOf (segsIn sil)))) ⌝ }
+// Writes the ends of the segments of the silhouette of a part whose outline starts in row `first`, from `at` on.
+fn put_ends(mouths: &mut [Mouth], at: usize, segs: &[SegRow], first: usize, p: Part) -> usize
+    requires { ⌜ (p .segs ≤ 48) × (first + p .segs ≤ length (now segs)) × (at + silhouetteCount p ≤ length (now mouths)) ⌝ }
+    ensures { λ r. ⌜ (r ≡ at + length (silhouetteFrom (outlinesIn (now (segs .entry))) first p)) × (now (mouths .exit) ≡ sets (now (mouths .entry)) at (map mouthRow (map endsOf (silhouetteFrom (outlinesIn (now (segs .entry))) first p)))) ⌝ }
 {
-    let n = sil.count;
+    let n = silhouette_count(p);
     let mut i: usize = 0;
     while i < n {
-        let b = sil.seg[i];
-        let s = b.seg;
+        let s = silhouette_seg(segs, first, p, i);
         let a = s.start();
         let e = s.end();
         mouths[at + i] = [a.x, a.y, e.x, e.y];
@@ -51,39 +50,43 @@ fn put_ends(mouths: &mut [Mouth], at: usize, sil: SilhouetteSegs) -> usize
     at + i
 }
 
-fn put_mouths(mouths: &mut [Mouth], ps: Parts, o: Outlines) -> usize
-    requires { ⌜ FewParts ps × (768 ≤ length (now mouths)) ⌝ }
-    ensures { λ r. ⌜ (r ≡ length (mouthsOf ps o)) × (now (mouths .exit) ≡ sets (now (mouths .entry)) 0 (map mouthRow (mouthsOf ps o))) ⌝ }
+fn put_mouths(mouths: &mut [Mouth], ps: Parts, segs: &[SegRow]) -> usize
+    requires { ⌜ FewParts ps × (startOfPart ps (ps .count) ≤ length (now segs)) × (2 * startOfPart ps (ps .count) ≤ length (now mouths)) ⌝ }
+    ensures { λ r. ⌜ (r ≡ length (mouthsOf ps (outlinesIn (now (segs .entry))))) × (now (mouths .exit) ≡ sets (now (mouths .entry)) 0 (map mouthRow (mouthsOf ps (outlinesIn (now (segs .entry)))))) ⌝ }
 {
     let n = ps.count;
+    let mut first: usize = 0;
     let mut at: usize = 0;
     let mut i: usize = 0;
     while i < n {
-        let j = i;
-        let p = ps.part[j];
+        let p = ps.part[i];
+        let f = first;
         i += 1;
+        first += p.segs;
         if is_read_cut(p) {
-            at = put_ends(mouths, at, silhouette_at(ps, o, j));
+            at = put_ends(mouths, at, segs, f, p);
         }
     }
     at
 }
 
-// Writes the ends of every segment of every cut in the section; nothing where a limit is passed or the array is too short.
-pub fn draw_mouths(mouths: &mut [Mouth], ps: Parts, o: Outlines) -> usize
-    ensures { λ r. ⌜ (r ≡ cond (mouthRoom ps (length (now (mouths .entry)))) (length (mouthsOf ps o)) 0) × (now (mouths .exit) ≡ cond (mouthRoom ps (length (now (mouths .entry)))) (sets (now (mouths .entry)) 0 (map mouthRow (mouthsOf ps o))) (now (mouths .entry))) ⌝ }
+fn mouth_room(ps: Parts, room: usize, segs: usize) -> bool
+    ensures { λ r. ⌜ r ≡ mouthRoom ps room segs ⌝ }
 {
-    let n = mouths.len();
-    if mouth_room(ps, n) {
-        return put_mouths(mouths, ps, o);
-    }
-    0
+    let n = segs_counted(ps);
+    !parts_over(ps) & ((2 * n <= room) & (n <= segs))
 }
 
-fn mouth_room(ps: Parts, room: usize) -> bool
-    ensures { λ r. ⌜ r ≡ mouthRoom ps room ⌝ }
+// Writes the ends of every segment of every cut in the section; nothing where a limit is passed, the array is too short or a segment is not there.
+pub fn draw_mouths(mouths: &mut [Mouth], ps: Parts, segs: &[SegRow]) -> usize
+    ensures { λ r. ⌜ (r ≡ cond (mouthRoom ps (length (now (mouths .entry))) (length (now (segs .entry)))) (length (mouthsOf ps (outlinesIn (now (segs .entry))))) 0) × (now (mouths .exit) ≡ cond (mouthRoom ps (length (now (mouths .entry))) (length (now (segs .entry)))) (sets (now (mouths .entry)) 0 (map mouthRow (mouthsOf ps (outlinesIn (now (segs .entry)))))) (now (mouths .entry))) ⌝ }
 {
-    !parts_over(ps) & (768 <= room)
+    let n = mouths.len();
+    let l = segs.len();
+    if mouth_room(ps, n, l) {
+        return put_mouths(mouths, ps, segs);
+    }
+    0
 }
 
 fn same_ends(a: Point, b: Point, c: Point, d: Point) -> bool
@@ -160,53 +163,9 @@ fn put_seg(samples: &mut [Spot], at: usize, s: Seg, place: Placement, mouths: &[
     put_points(samples, at, s, place)
 }
 
-fn put_samples(
-    samples: &mut [Spot],
-    sil: SilhouetteSegs,
-    place: Placement,
-    mouths: &[Mouth],
-) -> usize
-    requires { ⌜ (sil .count ≤ 94) × (1598 ≤ length (now samples)) ⌝ }
-    ensures { λ r. ⌜ (r ≡ length (flat (samplesOf (mouthsIn (now (mouths .entry)))) (segsIn sil))) × (now (samples .exit) ≡ sets (now (samples .entry)) 0 (map rowOf (map (worldOf place) (flat (samplesOf (mouthsIn (now (mouths .entry)))) (segsIn sil))))) ⌝ }
+// Writes the samples of a segment, placed, to the front.
+pub fn seg_samples(samples: &mut [Spot; 17], s: Seg, place: Placement, mouths: &[Mouth]) -> usize
+    ensures { λ r. ⌜ (r ≡ length (samplesOf (mouthsIn (now (mouths .entry))) s)) × (now (samples .exit) ≡ sets (now (samples .entry)) 0 (map rowOf (map (worldOf place) (samplesOf (mouthsIn (now (mouths .entry))) s)))) × (r ≤ 17) ⌝ }
 {
-    let n = sil.count;
-    let mut at: usize = 0;
-    let mut i: usize = 0;
-    while i < n {
-        let b = sil.seg[i];
-        let s = b.seg;
-        at = put_seg(samples, at, s, place, mouths);
-        i += 1;
-    }
-    at
-}
-
-fn sample_room(ps: Parts, i: usize, room: usize) -> bool
-    ensures { λ r. ⌜ r ≡ sampleRoom ps i room ⌝ }
-{
-    (!parts_over(ps) & (i < ps.count)) & (1598 <= room)
-}
-
-// Writes the samples of part i, placed; nothing where there is no such part or the array is too short.
-pub fn draw_samples(
-    samples: &mut [Spot],
-    mouths: &[Mouth],
-    ps: Parts,
-    o: Outlines,
-    q: Pose,
-    i: usize,
-) -> usize
-    ensures { λ r. ⌜ (r ≡ cond (sampleRoom ps i (length (now (samples .entry)))) (length (partSamples ps o q (mouthsIn (now (mouths .entry))) i)) 0) × (now (samples .exit) ≡ cond (sampleRoom ps i (length (now (samples .entry)))) (sets (now (samples .entry)) 0 (map rowOf (partSamples ps o q (mouthsIn (now (mouths .entry))) i))) (now (samples .entry))) ⌝ }
-{
-    let room = samples.len();
-    if sample_room(ps, i, room) {
-        let p = ps.part[i];
-        return put_samples(
-            samples,
-            silhouette_at(ps, o, i),
-            placement_at(q, p.body),
-            mouths,
-        );
-    }
-    0
+    put_seg(samples, 0, s, place, mouths)
 }

@@ -1,5 +1,6 @@
 // Parts and their silhouettes (contact/mod.rs).
 ghost use mathlib.Core.Path.{_≡_};
+ghost use mathlib.Core.Bool.{cond};
 ghost use mathlib.Core.List.{[], map, reverse};
 ghost use Prim.Native.Nat.{_+_, _-_, _<_, _≤_};
 ghost use lib.ListN.{take, drop};
@@ -355,6 +356,16 @@ fn start_of(ps: Parts, i: usize) -> usize
         k += 1;
     }
     at
+}
+
+// Where the outline of part i starts; 0 where there is no such part.
+pub fn start_of_part(ps: Parts, i: usize) -> usize
+    ensures { λ r. ⌜ r ≡ cond (isPart ps i) (startOfPart ps i) 0 ⌝ }
+{
+    if is_part(ps, i) {
+        return start_of(ps, i);
+    }
+    0
 }
 
 // The n segments from `at` on.
