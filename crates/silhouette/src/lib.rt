@@ -8,6 +8,7 @@ ghost use lib.Seq.{sets};
 ghost use Rattle.mechanism.specs.Check.{FewParts};
 ghost use Rattle.mechanism.specs.Description.{startOfPart, segsOf, partAt};
 ghost use Rattle.silhouette.specs.Silhouette.{axisOf, inTheSection, shiftedOf, sided, flipOf, aboutAxis, reversedOf, startIn, endIn, noLine, chainOf, turnedSeg, mirrored, revolvedOf, silhouetteOf, joinsNext, closedOf, boxed, outlineIn, asSilhouette, isPart, outlineOf, silhouetteAt};
+
 pub mod rows;
 
 use geometry::Dir;

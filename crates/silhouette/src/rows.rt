@@ -121,12 +121,6 @@ pub fn silhouette_count(p: Part) -> usize
     let about = axis(sweep);
     match about {
         MaybeAxis::NoAxis => n,
-        MaybeAxis::SomeAxis(_) => {
-            if n == 0 {
-                0
-            } else {
-                (n - 1) + (n - 1)
-            }
-        }
+        MaybeAxis::SomeAxis(_) => { if n == 0 { 0 } else { (n - 1) + (n - 1) } }
     }
 }
