@@ -19,16 +19,21 @@ use Rattle.laws.proofs.Sums.{sum-scaled, sum-more, sum-mono, sums-within, sum-o
 use Rattle.laws.proofs.Writing.{starts, puts, goes-on, appends-map, ends, ends-count, sets-append}
 use Rattle.geometry.specs.declared.Point.{Point}
 use Rattle.mechanism.specs.Check.{partsOver, FewParts}
-use Rattle.mechanism.specs.Description.{segsOf, startOfPart}
+use Rattle.mechanism.specs.Description.{partAt, segsOf, startOfPart}
+use Rattle.mechanism.specs.Segments.{outlinesIn, segsCounted}
+use Rattle.mechanism.proofs.SegRows.{rows-long}
+use Rattle.bodies.specs.Pose.{worldOf}
+use Rattle.bodies.specs.declared.pose.Placement.{Placement}
+use Rattle.silhouette.specs.Silhouette.{silhouetteFrom, silhouetteCount}
 use Rattle.mechanism.proofs.Checks.{few-parts}
 use Rattle.mechanism.specs.declared.Outlines.{Outlines}
 use Rattle.mechanism.specs.declared.Parts.{Parts}
 use Rattle.bodies.specs.declared.pose.Pose.{Pose}
-use Rattle.drawing.specs.Drawing.{polygonOf, polygonsOf, chosenAs, solidsOf, cutsOf, rowOf, same, rowsOf, endsFrom, startsOf, cursorAfter, chosenSegs, chosenCount, roomFor, countsOf}
+use Rattle.drawing.specs.Drawing.{drawnPoints, placedOf, polygonOf, polygonsOf, chosenAs, solidsOf, cutsOf, rowOf, same, rowsOf, endsFrom, startsOf, cursorAfter, chosenSegs, chosenCount, drawnMost, roomFor, roomFrom, countsOf}
 use Rattle.drawing.specs.declared.Chosen.{Chosen}
 use Rattle.drawing.specs.declared.Cursor.{Cursor}
 use Rattle.drawing.specs.declared.Polygons.{Polygons}
-use Rattle.drawing.proofs.Segments.{polygon-short}
+use Rattle.drawing.proofs.Segments.{polygon-short, from-part, part-within, part-counted, of-part}
 
 -- ---- sums that bound the lengths
 cond-scaled : (m a : ℕ) (b : Bool) → cond b (m * a) 0 ≤ m * cond b a 0
@@ -180,7 +185,34 @@ module _ (ps : Parts) (o : Outlines) (q : Pose) (c : Chosen) (w : ℕ) where
     pub draws-starts : ps .count ≤ i → st ≡ sets starts₀ (k₀ + 1) (endsFrom at₀ (polygonsOf ps o q (chosenAs c w)))
     draws-starts h = ends (ends-none at (none-left h)) (d .marked)
 
+-- ---- a part as a loop over rows reads it: its segments start in row `first`
+module _ (rows : List (List Float)) (ps : Parts) (q : Pose) {first i : ℕ} (few : FewParts ps) (h : i < ps .count) (e : first ≡ startOfPart ps i) where
+  pub asks-polygon : (at : ℕ) (points : List (List Float)) → startOfPart ps (ps .count) ≤ length rows → at + 16 * segsOf ps i ≤ length points
+      → (segsOf ps i ≤ 48) × (first + segsOf ps i ≤ length rows) × (at + 8 * silhouetteCount (partAt ps i) ≤ length points)
+  asks-polygon at points long r =
+      let l = rows-long rows in
+      let n : startOfPart ps (ps .count) ≤ length (outlinesIn rows .seg) = omega (arith, long, l) in
+      let w = part-within ps (outlinesIn rows) i few h e n in
+      let b = part-counted ps (outlinesIn rows) i few h e n in
+      (few .each i h, omega (arith, w, l), omega (arith, b, r))
+
+  pub polygon-drawn : (at : ℕ) (points : List (List Float)) {at′ : ℕ} {points′ : List (List Float)} (place : Placement) → place ≡ placedOf ps q i
+      → (at′ ≡ at + length (flat drawnPoints (silhouetteFrom (outlinesIn rows) first (partAt ps i)))) × (points′ ≡ sets points at (map rowOf (map (worldOf place) (flat drawnPoints (silhouetteFrom (outlinesIn rows) first (partAt ps i))))))
+      → (at′ ≡ at + length (polygonOf ps (outlinesIn rows) q i)) × (points′ ≡ sets points at (map rowOf (polygonOf ps (outlinesIn rows) q i)))
+  unfolding polygonOf
+  polygon-drawn at points place p w = of-part drawnPoints ps (outlinesIn rows) q i at points (from-part ps (outlinesIn rows) i few h e) p w
+
 -- ---- the arrays have room
+pub has-room-from : (ps : Parts) (n m segs : ℕ) → roomFrom ps n m segs ≡ true → FewParts ps × (16 * startOfPart ps (ps .count) ≤ n) × (33 ≤ m) × (startOfPart ps (ps .count) ≤ segs)
+has-room-from ps n m segs e =
+    let a = both (not (partsOver ps)) (leb (drawnMost ps) n && (leb 33 m && leb (segsCounted ps) segs)) e in
+    let b = both (leb (drawnMost ps) n) (leb 33 m && leb (segsCounted ps) segs) (a .1) in
+    let d = both (leb 33 m) (leb (segsCounted ps) segs) (b .1) in
+    let k = cond-no 0 (startOfPart ps (ps .count)) (not-yes (partsOver ps) (a .0)) in
+    let f = leb-true (drawnMost ps) n (b .0) in
+    let g = leb-true (segsCounted ps) segs (d .1) in
+    (few-parts ps (not-yes (partsOver ps) (a .0)), omega (arith, k, f), leb-true 33 m (d .0), omega (arith, k, g))
+
 pub has-room : (ps : Parts) (n m : ℕ) → roomFor ps n m ≡ true → FewParts ps × (6144 ≤ n) × (33 ≤ m)
 has-room ps n m e =
     let a = both (not (partsOver ps)) (leb 6144 n && leb 33 m) e in
@@ -195,18 +227,16 @@ module _ (ps : Parts) (o : Outlines) (q : Pose) (c : Chosen) (few : FewParts ps)
   abbrev cuts : List (List Point)
   cuts = cutsOf ps o q c
 
-  pub points-fit : length (flat same solids) + 16 * chosenSegs ps c 2 (ps .count) ≤ 6144
+  pub points-fit : length (flat same solids) + 16 * chosenSegs ps c 2 (ps .count) ≤ 16 * startOfPart ps (ps .count)
   points-fit =
       let a = polygons-short ps o q (chosenAs c 1) (ps .count) 0 in
       let b = chosen-segs ps c (ps .count) in
-      let t = few .total in
-      omega (arith, a, b, t)
+      omega (arith, a, b)
 
-  pub first-fits : 16 * chosenSegs ps c 1 (ps .count) ≤ 6144
+  pub first-fits : 16 * chosenSegs ps c 1 (ps .count) ≤ 16 * startOfPart ps (ps .count)
   first-fits =
       let b = chosen-segs ps c (ps .count) in
-      let t = few .total in
-      omega (arith, b, t)
+      omega (arith, b)
 
   pub solids-count : length solids ≡ chosenCount c 1 (ps .count)
   solids-count = length-map (filterIn (chosenAs c 1) (ps .count) 0) (polygonOf ps o q) ∙ filter-count (chosenAs c 1) (ps .count) 0
@@ -249,24 +279,30 @@ abbrev After : Parts → Outlines → Pose → Chosen → ℕ → Cursor → Lis
 After ps o q c w from points₀ starts₀ to points starts =
     (to ≡ cursorAfter from (polygonsOf ps o q (chosenAs c w))) × (points ≡ sets points₀ (from .at) (rowsOf (polygonsOf ps o q (chosenAs c w)))) × (starts ≡ sets starts₀ (from .count + 1) (endsFrom (from .at) (polygonsOf ps o q (chosenAs c w))))
 
-module _ (ps : Parts) (o : Outlines) (q : Pose) (c : Chosen) (points₀ : List (List Float)) (starts₀ : List ℕ) (room : roomFor ps (length points₀) (length starts₀) ≡ true) where
-  few-here : FewParts ps
-  few-here = has-room ps (length points₀) (length starts₀) room .0
+module _ (ps : Parts) (rows : List (List Float)) (q : Pose) (c : Chosen) (points₀ : List (List Float)) (starts₀ : List ℕ) (room : roomFrom ps (length points₀) (length starts₀) (length rows) ≡ true) where
+  abbrev o : Outlines
+  o = outlinesIn rows
 
-  long-points : 6144 ≤ length points₀
-  long-points = has-room ps (length points₀) (length starts₀) room .1
+  few-here : FewParts ps
+  few-here = has-room-from ps (length points₀) (length starts₀) (length rows) room .0
+
+  long-points : 16 * startOfPart ps (ps .count) ≤ length points₀
+  long-points = has-room-from ps (length points₀) (length starts₀) (length rows) room .1
 
   pub long-starts : 33 ≤ length starts₀
-  long-starts = has-room ps (length points₀) (length starts₀) room .2
+  long-starts = has-room-from ps (length points₀) (length starts₀) (length rows) room .2
 
-  pub first-asks : FewParts ps × (0 + 16 * chosenSegs ps c 1 (ps .count) ≤ length points₀) × (0 + chosenCount c 1 (ps .count) < length (set starts₀ 0 0))
+  long-rows : startOfPart ps (ps .count) ≤ length rows
+  long-rows = has-room-from ps (length points₀) (length starts₀) (length rows) room .3
+
+  pub first-asks : FewParts ps × (startOfPart ps (ps .count) ≤ length rows) × (0 + 16 * chosenSegs ps c 1 (ps .count) ≤ length points₀) × (0 + chosenCount c 1 (ps .count) < length (set starts₀ 0 0))
   first-asks =
       let a = first-fits ps o q c few-here in
       let b = starts-fit ps o q c few-here .0 in
       let k = length-set starts₀ 0 0 in
       let p = long-points in
       let s = long-starts in
-      (few-here, omega (arith, a, p), omega (arith, b, k, s))
+      (few-here, long-rows, omega (arith, a, p), omega (arith, b, k, s))
 
   module _ {r : Cursor} {points : List (List Float)} {st : List ℕ} (first : After ps o q c 1 front points₀ (set starts₀ 0 0) r points st) where
     first-at : r .at ≡ 0 + length (flat same (solidsOf ps o q c))
@@ -281,7 +317,7 @@ module _ (ps : Parts) (o : Outlines) (q : Pose) (c : Chosen) (points₀ : List (
     starts-long : length st ≡ length starts₀
     starts-long = ap length (first .2) ∙ length-sets (set starts₀ 0 0) 1 (endsFrom 0 (solidsOf ps o q c)) ∙ length-set starts₀ 0 0
 
-    pub second-asks : FewParts ps × (r .at + 16 * chosenSegs ps c 2 (ps .count) ≤ length points) × (r .count + chosenCount c 2 (ps .count) < length st)
+    pub second-asks : FewParts ps × (startOfPart ps (ps .count) ≤ length rows) × (r .at + 16 * chosenSegs ps c 2 (ps .count) ≤ length points) × (r .count + chosenCount c 2 (ps .count) < length st)
     second-asks =
         let a = points-fit ps o q c few-here in
         let b = starts-fit ps o q c few-here .1 in
@@ -291,7 +327,7 @@ module _ (ps : Parts) (o : Outlines) (q : Pose) (c : Chosen) (points₀ : List (
         let g = starts-long in
         let p = long-points in
         let s = long-starts in
-        (few-here, omega (arith, a, d, f, p), omega (arith, b, e, g, s))
+        (few-here, long-rows, omega (arith, a, d, f, p), omega (arith, b, e, g, s))
 
     module _ {t : Cursor} {points′ : List (List Float)} {st′ : List ℕ} (second : After ps o q c 2 r points st t points′ st′) where
       pub all-starts-long : length st′ ≡ length starts₀
@@ -316,9 +352,9 @@ module _ (ps : Parts) (o : Outlines) (q : Pose) (c : Chosen) (points₀ : List (
           ap (λ (n : ℕ). made n (t .count) (t .at)) u ∙ ap (λ (n : ℕ). made (length (solidsOf ps o q c)) n (t .at)) v
           ∙ ap (λ (n : ℕ). made (length (solidsOf ps o q c)) (length (solidsOf ps o q c) + length (cutsOf ps o q c)) n) w
 
-      pub all-drawn : (record { solids = r .count; all = t .count; points = t .at } ≡ countsOf (roomFor ps (length points₀) (length starts₀)) (solidsOf ps o q c) (cutsOf ps o q c))
-          × (points′ ≡ cond (roomFor ps (length points₀) (length starts₀)) (sets points₀ 0 (rowsOf (solidsOf ps o q c ++ cutsOf ps o q c))) points₀)
-          × (st′ ≡ cond (roomFor ps (length points₀) (length starts₀)) (sets starts₀ 0 (startsOf (solidsOf ps o q c ++ cutsOf ps o q c))) starts₀)
+      pub all-drawn : (record { solids = r .count; all = t .count; points = t .at } ≡ countsOf (roomFrom ps (length points₀) (length starts₀) (length rows)) (solidsOf ps o q c) (cutsOf ps o q c))
+          × (points′ ≡ cond (roomFrom ps (length points₀) (length starts₀) (length rows)) (sets points₀ 0 (rowsOf (solidsOf ps o q c ++ cutsOf ps o q c))) points₀)
+          × (st′ ≡ cond (roomFrom ps (length points₀) (length starts₀) (length rows)) (sets starts₀ 0 (startsOf (solidsOf ps o q c ++ cutsOf ps o q c))) starts₀)
       all-drawn = (
         all-counted ∙ ap (λ (b : Bool). countsOf b (solidsOf ps o q c) (cutsOf ps o q c)) (sym room),
         second .1 ∙ ap₂ (λ (l : List (List Float)) (n : ℕ). sets l n (rowsOf (cutsOf ps o q c))) (first .1) first-at ∙ points-both (solidsOf ps o q c) (cutsOf ps o q c) points₀ ∙ sym (cond-yes _ _ room),
@@ -326,8 +362,9 @@ module _ (ps : Parts) (o : Outlines) (q : Pose) (c : Chosen) (points₀ : List (
       )
 
 -- nothing is drawn
-pub none-drawn : (ps : Parts) (points₀ : List (List Float)) (starts₀ : List ℕ) (xs ys : List (List Point)) → roomFor ps (length points₀) (length starts₀) ≡ false
-    → (record { solids = 0; all = 0; points = 0 } ≡ countsOf (roomFor ps (length points₀) (length starts₀)) xs ys)
-    × (points₀ ≡ cond (roomFor ps (length points₀) (length starts₀)) (sets points₀ 0 (rowsOf (xs ++ ys))) points₀)
-    × (starts₀ ≡ cond (roomFor ps (length points₀) (length starts₀)) (sets starts₀ 0 (startsOf (xs ++ ys))) starts₀)
-none-drawn ps points₀ starts₀ xs ys e = (ap (λ (b : Bool). countsOf b xs ys) (sym e), sym (cond-no _ _ e), sym (cond-no _ _ e))
+module _ (t : Bool) (points₀ : List (List Float)) (starts₀ : List ℕ) (xs ys : List (List Point)) where
+  abbrev Drawn : Polygons → List (List Float) → List ℕ → Type 0
+  Drawn n points st = (n ≡ countsOf t xs ys) × (points ≡ cond t (sets points₀ 0 (rowsOf (xs ++ ys))) points₀) × (st ≡ cond t (sets starts₀ 0 (startsOf (xs ++ ys))) starts₀)
+
+  pub none-drawn : t ≡ false → Drawn (record { solids = 0; all = 0; points = 0 }) points₀ starts₀
+  none-drawn e = (ap (λ (b : Bool). countsOf b xs ys) (sym e), sym (cond-no _ _ e), sym (cond-no _ _ e))

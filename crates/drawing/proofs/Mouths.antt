@@ -3,7 +3,7 @@ use Prim.Native.Nat.{ℕ, _+_, _*_, _-_, _<_, _≤_}
 use native.Mathlib.Omega.{arith}
 use native.Mathlib.Nat.{zero-add, sub-zero}
 use mathlib.Core.Path.{_≡_, refl, sym, ap, ap₂, _∙_}
-use mathlib.Core.Bool.{Bool, true, false, not, cond}
+use mathlib.Core.Bool.{Bool, true, false, not, cond, _&&_}
 use mathlib.Core.List.{List, [], _∷_, map}
 use lib.Dec.{leb}
 use lib.Ieee.{Float}
@@ -15,7 +15,7 @@ use Rattle.laws.specs.Loops.{filterIn, Writing}
 use Rattle.laws.proofs.Choice.{cond-yes, cond-no, both, not-yes}
 use Rattle.laws.proofs.Lists.{list-turn, list-done, flat-none}
 use Rattle.laws.proofs.Loops.{filter-yes, filter-no, filter-done}
-use Rattle.laws.proofs.Sums.{sum-more}
+use Rattle.laws.proofs.Sums.{sum-more, sum-part}
 use Rattle.laws.proofs.Writing.{starts, goes-on, appends-map, ends, ends-count}
 use Rattle.geometry.specs.Geometry.{startOf, endOf}
 use Rattle.geometry.specs.declared.Dir.{Dir}
@@ -24,16 +24,16 @@ use Rattle.geometry.specs.declared.Seg.{Seg}
 use Rattle.geometry.specs.declared.Seg.the-variants.{Line, Arc}
 use Rattle.mechanism.specs.Check.{partsOver, FewParts}
 use Rattle.mechanism.specs.Description.{partAt, segsOf, startOfPart}
+use Rattle.mechanism.specs.Segments.{outlinesIn, segsCounted}
+use Rattle.mechanism.proofs.SegRows.{rows-long}
 use Rattle.mechanism.proofs.Checks.{few-parts}
 use Rattle.mechanism.specs.declared.Outlines.{Outlines}
 use Rattle.mechanism.specs.declared.Parts.{Parts}
-use Rattle.silhouette.specs.Silhouette.{segsIn, asSilhouette, isPart, silhouetteAt}
-use Rattle.silhouette.specs.declared.SilhouetteSegs.{SilhouetteSegs}
-use Rattle.silhouette.proofs.Lengths.{part-of}
+use Rattle.silhouette.specs.Silhouette.{silhouetteAt, silhouetteCount}
 use Rattle.material.specs.Material.{Edge}
 use Rattle.drawing.specs.Drawing.{isReadCut, drawnPoints, rowOf}
-use Rattle.drawing.specs.Samples.{endsOf, mouthsOf, isMouth, onLine, samplePoints, samplesOf, mouthRow, mouthRoom, sampleRoom}
-use Rattle.drawing.proofs.Segments.{drawn-short, silhouette-short, sil-segs, sil-count}
+use Rattle.drawing.specs.Samples.{endsOf, mouthsOf, isMouth, onLine, samplePoints, samplesOf, mouthRow, mouthRoom}
+use Rattle.drawing.proofs.Segments.{drawn-short, silhouette-short, part-within, part-counted}
 
 -- ---- seventeen points along a line
 pub line-turn : (g : Point → Point) (f : ℕ → Point) (k : ℕ) (p : Point) → k < 17 → p ≡ g (f k)
@@ -100,20 +100,19 @@ unfolding mouthsOf
 mouths-start ps o out = record { far = omega arith; room = omega arith; rest = starts (ap (λ (n : ℕ). map mouthRow (flat (endsAt ps o) (filterIn (cutAt ps) n 0))) (sub-zero (ps .count))) }
 
 module _ {ps : Parts} {o : Outlines} {out₀ out : List (List Float)} {at i : ℕ} (m : Mouths ps o out₀ out at i) where
-  pub mouths-room : FewParts ps → i < ps .count → 768 ≤ length out₀ → {r : SilhouetteSegs} → r ≡ asSilhouette (silhouetteAt ps o i) → (r .count ≤ 94) × (at + r .count ≤ length out)
-  mouths-room few h l e =
-      let a = sil-count ps o i e .0 in
-      let b = sil-count ps o i e .1 in
-      let k = few .all i h in
+  pub mouths-room : {first : ℕ} → FewParts ps → i < ps .count → first ≡ startOfPart ps i → startOfPart ps (ps .count) ≤ length (o .seg) → 2 * startOfPart ps (ps .count) ≤ length out₀
+      → at + silhouetteCount (partAt ps i) ≤ length out
+  mouths-room few h e long l =
+      let b = part-counted ps o i few h e long in
+      let k = sum-part (segsOf ps) i (ps .count) h in
       let w = m .rest .long in
       let g = m .room in
-      (a, omega (arith, b, k, w, g, l))
+      omega (arith, b, k, w, g, l)
 
-  pub mouths-more : {r : SilhouetteSegs} {out′ : List (List Float)} {at′ : ℕ} → i < ps .count → cutAt ps i ≡ true → r ≡ asSilhouette (silhouetteAt ps o i)
-      → (at′ ≡ at + length (segsIn r)) × (out′ ≡ sets out at (map mouthRow (map endsOf (segsIn r)))) → Mouths ps o out₀ out′ at′ (i + 1)
+  pub mouths-more : {r : List Seg} {out′ : List (List Float)} {at′ : ℕ} → i < ps .count → cutAt ps i ≡ true → r ≡ silhouetteAt ps o i
+      → (at′ ≡ at + length r) × (out′ ≡ sets out at (map mouthRow (map endsOf r))) → Mouths ps o out₀ out′ at′ (i + 1)
   unfolding flat
-  mouths-more h c e w =
-      let s = sil-segs ps o i e in
+  mouths-more h c s w =
       let n : length (endsAt ps o i) ≡ length (silhouetteAt ps o i) = length-map (silhouetteAt ps o i) endsOf in
       let b = silhouette-short ps o i in
       let k = sum-more (segsOf ps) i in
@@ -141,14 +140,22 @@ module _ {ps : Parts} {o : Outlines} {out₀ out : List (List Float)} {at i : �
       let e = ap (map mouthRow) (flat-none (endsAt ps o) (filter-done (cutAt ps) (ps .count) i h)) in
       (ends-count e (m .rest) ∙ zero-add _ ∙ length-map (mouthsOf ps o) mouthRow, ends e (m .rest))
 
--- ---- the arrays have room
-pub has-mouth-room : (ps : Parts) (n : ℕ) → mouthRoom ps n ≡ true → FewParts ps × (768 ≤ n)
-has-mouth-room ps n e =
-    let a = both (not (partsOver ps)) (leb 768 n) e in
-    (few-parts ps (not-yes (partsOver ps) (a .0)), leb-true 768 n (a .1))
+-- what `put_ends` asks of part i
+pub asks-ends : (rows : List (List Float)) {ps : Parts} {out₀ out : List (List Float)} {at i first : ℕ} → Mouths ps (outlinesIn rows) out₀ out at i → FewParts ps → i < ps .count → first ≡ startOfPart ps i
+    → startOfPart ps (ps .count) ≤ length rows → 2 * startOfPart ps (ps .count) ≤ length out₀
+    → (segsOf ps i ≤ 48) × (first + segsOf ps i ≤ length rows) × (at + silhouetteCount (partAt ps i) ≤ length out)
+asks-ends rows {ps} {i = i} m few h e long l =
+    let k = rows-long rows in
+    let n : startOfPart ps (ps .count) ≤ length (outlinesIn rows .seg) = omega (arith, long, k) in
+    let w = part-within ps (outlinesIn rows) i few h e n in
+    (few .each i h, omega (arith, w, k), mouths-room m few h e n l)
 
-pub has-sample-room : (ps : Parts) (i n : ℕ) → sampleRoom ps i n ≡ true → FewParts ps × (i < ps .count) × (1598 ≤ n)
-has-sample-room ps i n e =
-    let a = both (isPart ps i) (leb 1598 n) e in
-    let p = part-of ps i (a .0) in
-    (p .0, p .1, leb-true 1598 n (a .1))
+-- ---- the arrays have room
+pub has-mouth-room : (ps : Parts) (n segs : ℕ) → mouthRoom ps n segs ≡ true → FewParts ps × (startOfPart ps (ps .count) ≤ segs) × (2 * startOfPart ps (ps .count) ≤ n)
+has-mouth-room ps n segs e =
+    let a = both (not (partsOver ps)) (leb (2 * segsCounted ps) n && leb (segsCounted ps) segs) e in
+    let b = both (leb (2 * segsCounted ps) n) (leb (segsCounted ps) segs) (a .1) in
+    let c = cond-no 0 (startOfPart ps (ps .count)) (not-yes (partsOver ps) (a .0)) in
+    let f = leb-true (2 * segsCounted ps) n (b .0) in
+    let g = leb-true (segsCounted ps) segs (b .1) in
+    (few-parts ps (not-yes (partsOver ps) (a .0)), omega (arith, c, g), omega (arith, c, f))

@@ -23,8 +23,11 @@ use Rattle.geometry.specs.declared.Seg.the-variants.{Line, Arc}
 use Rattle.mechanism.specs.Check.{FewParts}
 use Rattle.mechanism.specs.Description.{partAt, segsOf, startOfPart, silhouetteLength}
 use Rattle.bodies.specs.Pose.{worldOf}
+use Rattle.mechanism.specs.Segments.{outlinesIn}
+use Rattle.mechanism.proofs.SegRows.{rows-long}
 use Rattle.mechanism.specs.declared.Outlines.{Outlines}
 use Rattle.mechanism.specs.declared.Parts.{Parts}
+use Rattle.mechanism.specs.declared.part.Part.{Part}
 use Rattle.mechanism.specs.declared.part.Sweep.{Sweep}
 use Rattle.mechanism.specs.declared.part.Sweep.the-variants.{Extruded, Revolved, Milled, Oval}
 use Rattle.bodies.specs.declared.pose.Placement.{Placement}
@@ -151,6 +154,10 @@ module _ (ps : Parts) (o : Outlines) (i : ℕ) where
           let s = outline-short ps o i in
           silhouette-few (partAt ps i .sweep) (outlineOf ps o i) (omega (arith, f, s))
       go false e = omega arith
+
+-- how many segments the silhouette of a part has whose outline stands in rows
+pub rows-count : (rows : List (List Float)) (first : ℕ) (p : Part) → p .segs ≤ 48 → first + p .segs ≤ length rows → length (silhouetteFrom (outlinesIn rows) first p) ≡ silhouetteCount p
+rows-count rows first p h k = let l = rows-long rows in count-is (outlinesIn rows) first p h (omega (arith, k, l))
 
 -- part i as the code reads it: its segments start in row `first`
 module _ (ps : Parts) (o : Outlines) (i : ℕ) {first : ℕ} (few : FewParts ps) (h : i < ps .count) (e : first ≡ startOfPart ps i) where

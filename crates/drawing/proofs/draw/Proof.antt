@@ -1,57 +1,63 @@
-use native.Mathlib.Omega.{arith}
 use borrow.Author.Needs.{needs}
-use mathlib.Core.Path.{sym, _∙_}
-use Rattle.drawing.proofs.Draws.{long-starts, first-asks, second-asks, all-starts-long, all-points-long, all-drawn, none-drawn}
 use Rattle.drawing.proofs.draw.Statement.{statement}
 use Rattle.drawing.proofs.draw.Tie as tie
+use Rattle.drawing.proofs.draw.Reads as reads
+use Rattle.drawing.proofs.draw.Lts as lts
+use Rattle.drawing.proofs.draw_from.Reads as draw-from-reads
+use Rattle.drawing.proofs.room_for.Reads as room-for-reads
+use Rattle.mechanism.proofs.check.segs_counted.Reads as segs-counted-reads
+use Rattle.mechanism.proofs.segments.put_segs.Reads as put-segs-reads
 
+-- src/lib.rt:321:8
 room-for-requires : tie.Need-room-for-requires
 room-for-requires c κs = search needs
 
-slice-write-starts : tie.Need-slice-write-starts
-slice-write-starts c =
-    let s = c .before .before .before .args in
-    let r = long-starts (s .ps) (s .o) (s .q) (s .c) (s .points .now) (s .starts .now) (sym (c .before .room-for .ensures) ∙ c .if1 .taken) in
-    omega arith
+-- src/lib.rt:323:18
+slice-aggregate-put-segs : tie.Need-slice-aggregate-put-segs
+slice-aggregate-put-segs c = search needs
 
-draw-all-requires : tie.Need-draw-all-requires
-draw-all-requires c κs =
-    let s = c .before .before .before .before .before .args in
-    first-asks (s .ps) (s .o) (s .q) (s .c) (s .points .now) (s .starts .now) (sym (c .before .before .before .room-for .ensures) ∙ c .before .before .if1 .taken)
+-- src/lib.rt:323:32
+segs-counted-requires : tie.Need-segs-counted-requires
+segs-counted-requires c κs = search needs
 
-draw-all-requires-2 : tie.Need-draw-all-requires-2
-draw-all-requires-2 c κs =
-    let s = c .before .before .before .before .before .before .before .before .before .before .before .args in
-    second-asks (s .ps) (s .o) (s .q) (s .c) (s .points .now) (s .starts .now) (sym (c .before .before .before .before .before .before .before .before .before .room-for .ensures) ∙ c .before .before .before .before .before .before .before .before .if1 .taken) (c .before .before .before .before .before .draw-all .ensures)
+-- src/lib.rt:323:9
+put-segs-requires : tie.Need-put-segs-requires
+put-segs-requires c κs = search needs
 
+-- src/lib.rt:324:46
+slice-aggregate-draw-from : tie.Need-slice-aggregate-draw-from
+slice-aggregate-draw-from c = search needs
+
+-- src/lib.rt:324:9
+draw-from-requires : tie.Need-draw-from-requires
+draw-from-requires c κs = search needs
+
+-- src/lib.rt:324:9
 same-length : tie.Need-same-length
-same-length c =
-    let s = c .before .before .before .before .before .before .before .before .before .before .before .before .before .before .before .args in
-    all-points-long (s .ps) (s .o) (s .q) (s .c) (s .points .now) (s .starts .now) (sym (c .before .before .before .before .before .before .before .before .before .before .before .before .before .room-for .ensures) ∙ c .before .before .before .before .before .before .before .before .before .before .before .before .if1 .taken) (c .before .before .before .before .before .before .before .before .before .draw-all .ensures) (c .before .before .before .draw-all2 .ensures)
+same-length c = search needs
 
+-- src/lib.rt:324:9
 same-length-2 : tie.Need-same-length-2
-same-length-2 c =
-    let s = c .before .before .before .before .before .before .before .before .before .before .before .before .before .before .before .args in
-    all-starts-long (s .ps) (s .o) (s .q) (s .c) (s .points .now) (s .starts .now) (sym (c .before .before .before .before .before .before .before .before .before .before .before .before .before .room-for .ensures) ∙ c .before .before .before .before .before .before .before .before .before .before .before .before .if1 .taken) (c .before .before .before .before .before .before .before .before .before .draw-all .ensures) (c .before .before .before .draw-all2 .ensures)
+same-length-2 c = search needs
 
+-- src/lib.rt:324:9
 returns : tie.Need-returns
-returns c =
-    let s = c .before .before .before .before .before .before .before .before .before .before .before .before .before .before .before .args in
-    all-drawn (s .ps) (s .o) (s .q) (s .c) (s .points .now) (s .starts .now) (sym (c .before .before .before .before .before .before .before .before .before .before .before .before .before .room-for .ensures) ∙ c .before .before .before .before .before .before .before .before .before .before .before .before .if1 .taken) (c .before .before .before .before .before .before .before .before .before .draw-all .ensures) (c .before .before .before .draw-all2 .ensures)
+returns c = ?
 
+-- src/lib.rt:309:1
 returns-2 : tie.Need-returns-2
-returns-2 c =
-    let s = c .before .before .before .args in
-    none-drawn (s .ps) (s .points .now) (s .starts .now) _ _ (sym (c .before .room-for .ensures) ∙ c .if1 .left)
+returns-2 c = ?
 
 pub draw-spec : {M : Type 1} → statement M
 draw-spec =
     tie.close
     (tie.spec
     room-for-requires
-    slice-write-starts
-    draw-all-requires
-    draw-all-requires-2
+    slice-aggregate-put-segs
+    segs-counted-requires
+    put-segs-requires
+    slice-aggregate-draw-from
+    draw-from-requires
     same-length
     same-length-2
     returns

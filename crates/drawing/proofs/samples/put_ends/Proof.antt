@@ -3,30 +3,30 @@ use borrow.Author.Needs.{needs}
 use Prim.Native.Nat.{_+_, _-_, _≤_}
 use mathlib.Core.Path.{refl}
 use mathlib.Core.List.{map}
-use lib.ListN.{length, drop}
+use lib.ListN.{drop}
 use Rattle.laws.specs.Loops.{Writing}
 use Rattle.laws.proofs.Writing.{ends}
-use Rattle.silhouette.specs.Silhouette.{segsIn}
-use Rattle.silhouette.proofs.Known.{silhouette-long}
+use Rattle.mechanism.specs.Segments.{outlinesIn}
+use Rattle.silhouette.specs.Silhouette.{silhouetteFrom, silhouetteCount}
 use Rattle.drawing.specs.Samples.{endsOf, mouthRow}
-use Rattle.drawing.proofs.Segments.{sil-long, ends-turn, ends-done, first-row, next-row}
+use Rattle.drawing.proofs.Segments.{ends-turn, ends-done, first-row, next-row, rows-count}
 use Rattle.drawing.proofs.samples.put_ends.Statement.{statement}
 use Rattle.drawing.proofs.samples.put_ends.Tie as tie
 
 abbrev Inv-loop : tie.InvT-loop
-Inv-loop mouths₀ at sil n i₀ mouths i = (i ≤ sil .count) × Writing mouths₀ at (map mouthRow (map endsOf (segsIn sil))) mouths (at + i) (map mouthRow (map endsOf (drop i (segsIn sil))))
+Inv-loop mouths₀ at segs first p n i₀ mouths i = (i ≤ silhouetteCount p) × Writing mouths₀ at (map mouthRow (map endsOf (silhouetteFrom (outlinesIn segs) first p))) mouths (at + i) (map mouthRow (map endsOf (drop i (silhouetteFrom (outlinesIn segs) first p))))
 
 abbrev μ-loop : tie.MeasureT-loop
-μ-loop mouths₀ at sil n i₀ mouths i = sil .count - i
+μ-loop mouths₀ at segs first p n i₀ mouths i = silhouetteCount p - i
+
+silhouette-count-requires : tie.Need-silhouette-count-requires Inv-loop μ-loop
+silhouette-count-requires c κs = search needs
 
 loop-holds : tie.Need-loop-holds Inv-loop μ-loop
 loop-holds c = (omega arith, first-row refl)
 
-mul-b : tie.Need-mul-b Inv-loop μ-loop
-mul-b c = omega arith
-
-element-copy-out-b : tie.Need-element-copy-out-b Inv-loop μ-loop
-element-copy-out-b c = omega arith
+silhouette-seg-requires : tie.Need-silhouette-seg-requires Inv-loop μ-loop
+silhouette-seg-requires c κs = search needs
 
 start-requires : tie.Need-start-requires Inv-loop μ-loop
 start-requires c κs = search needs
@@ -34,30 +34,49 @@ start-requires c κs = search needs
 end-requires : tie.Need-end-requires Inv-loop μ-loop
 end-requires c κs = search needs
 
-add-t12 : tie.Need-add-t12 Inv-loop μ-loop
-add-t12 c = omega arith
+add-t13 : tie.Need-add-t13 Inv-loop μ-loop
+add-t13 c =
+    let e = c .before .before .before .before .before .silhouette-count .ensures .0 in
+    let w = c .before .before .before .before .loop .inv .1 .long in
+    omega arith
 
-mul-t17 : tie.Need-mul-t17 Inv-loop μ-loop
-mul-t17 c = let w = c .before .before .before .before .loop .inv .1 .long in omega arith
+mul-t14 : tie.Need-mul-t14 Inv-loop μ-loop
+mul-t14 c =
+    let e = c .before .before .before .before .before .silhouette-count .ensures .0 in
+    let w = c .before .before .before .before .loop .inv .1 .long in
+    omega arith
 
 slice-set-from-mouths : tie.Need-slice-set-from-mouths Inv-loop μ-loop
-slice-set-from-mouths c = let w = c .before .before .before .before .loop .inv .1 .long in omega arith
+slice-set-from-mouths c =
+    let e = c .before .before .before .before .before .silhouette-count .ensures .0 in
+    let w = c .before .before .before .before .loop .inv .1 .long in
+    omega arith
 
 add-i : tie.Need-add-i Inv-loop μ-loop
-add-i c = omega arith
+add-i c =
+    let e = c .before .before .before .before .before .silhouette-count .ensures .0 in
+    let w = c .before .before .before .before .loop .inv .1 .long in
+    omega arith
 
 loop-less : tie.Need-loop-less Inv-loop μ-loop
-loop-less c = omega arith
+loop-less c =
+    let e = c .before .before .before .before .before .silhouette-count .ensures .0 in
+    let w = c .before .before .before .before .loop .inv .1 .long in
+    omega arith
 
 loop-again : tie.Need-loop-again Inv-loop μ-loop
 loop-again c =
     let l = c .before .before .before .before .loop in
-    let s = c .before .before .before .before .before in
-    let k = silhouette-long (s .args .t3) _ (s .good .1 .1 .0) in
-    (omega arith, next-row _ (l .i) (ends-turn (s .args .t3) (l .i) (omega arith) _ _ (omega arith) (c .before .start .ensures) (c .end .ensures)) (l .inv .1))
+    let s = c .before .before .before .before .before .before in
+    let e = c .before .before .before .before .before .silhouette-count .ensures .0 in
+    let k = rows-count (s .args .segs .now) (s .args .first) (s .args .p) (s .pre .0) (s .pre .1) in
+    (omega arith, next-row _ (l .i) (ends-turn _ (l .i) (omega arith) (c .before .before .silhouette-seg .ensures) (c .before .start .ensures) (c .end .ensures)) (l .inv .1))
 
 add-result : tie.Need-add-result Inv-loop μ-loop
-add-result c = omega arith
+add-result c =
+    let e = c .before .before .silhouette-count .ensures .0 in
+    let w = c .before .loop .inv .1 .long in
+    omega arith
 
 same-length : tie.Need-same-length Inv-loop μ-loop
 same-length c = c .before .loop .inv .1 .long
@@ -65,11 +84,10 @@ same-length c = c .before .loop .inv .1 .long
 returns : tie.Need-returns Inv-loop μ-loop
 returns c =
     let l = c .before .loop in
-    let s = c .before .before in
-    let k = silhouette-long (s .args .t3) _ (s .good .1 .1 .0) in
-    let n : s .args .t3 .count ≤ length (s .args .t3 .seg) = omega arith in
-    let z = sil-long (s .args .t3) (l .i) n in
-    (omega arith, ends (ends-done (s .args .t3) (l .i) n (omega arith)) (l .inv .1))
+    let s = c .before .before .before in
+    let e = c .before .before .silhouette-count .ensures .0 in
+    let k = rows-count (s .args .segs .now) (s .args .first) (s .args .p) (s .pre .0) (s .pre .1) in
+    (omega arith, ends (ends-done _ (l .i) (omega arith)) (l .inv .1))
 
 pub put-ends-spec : {M : Type 1} → statement M
 put-ends-spec =
@@ -77,13 +95,13 @@ put-ends-spec =
     (tie.spec
     Inv-loop
     μ-loop
+    silhouette-count-requires
     loop-holds
-    mul-b
-    element-copy-out-b
+    silhouette-seg-requires
     start-requires
     end-requires
-    add-t12
-    mul-t17
+    add-t13
+    mul-t14
     slice-set-from-mouths
     add-i
     loop-less
