@@ -1,35 +1,31 @@
+use mathlib.Core.Path.{refl}
+use lib.ListN.{replicate}
+use Rattle.ieee.specs.Consts.{zeroF}
+use Rattle.mechanism.proofs.Known.{outlines-long}
+use Rattle.sides.proofs.SameCenter.{center-put}
 use borrow.Author.Needs.{needs}
 use Rattle.sides.proofs.center_at.Statement.{statement}
 use Rattle.sides.proofs.center_at.Tie as tie
-use Rattle.sides.proofs.center_at.Reads as reads
-use Rattle.sides.proofs.center_at.Lts as lts
-use Rattle.mechanism.proofs.check.segs_counted.Reads as segs-counted-reads
-use Rattle.mechanism.proofs.segments.put_segs.Reads as put-segs-reads
-use Rattle.sides.proofs.center_in.Reads as center-in-reads
 
--- src/lib.rt:681:14
 slice-aggregate-put-segs : tie.Need-slice-aggregate-put-segs
 slice-aggregate-put-segs c = search needs
 
--- src/lib.rt:681:28
 segs-counted-requires : tie.Need-segs-counted-requires
 segs-counted-requires c κs = search needs
 
--- src/lib.rt:681:5
 put-segs-requires : tie.Need-put-segs-requires
 put-segs-requires c κs = search needs
 
--- src/lib.rt:682:19
 slice-aggregate-center-in : tie.Need-slice-aggregate-center-in
 slice-aggregate-center-in c = search needs
 
--- src/lib.rt:682:5
 center-in-requires : tie.Need-center-in-requires
 center-in-requires c κs = search needs
 
--- src/lib.rt:676:1
 returns : tie.Need-returns
-returns c = ?
+returns c =
+    let s = c .before .before .before .before .before .before in
+    center-put (s .args .ps) (s .args .o) (s .args .u) (s .args .wanted) (s .pre .0) (replicate 384 (replicate 8 zeroF)) (outlines-long (s .args .o) _ (s .good .1 .0)) refl (c .before .before .before .before .segs-counted .ensures) (c .before .before .before .put-segs .ensures) (c .center-in .ensures)
 
 pub center-at-spec : {M : Type 1} → statement M
 center-at-spec =

@@ -1,58 +1,70 @@
+use Prim.Native.Nat.{_-_}
+use native.Mathlib.Omega.{arith}
+use mathlib.Core.Path.{_∙_}
+use Rattle.mechanism.specs.Segments.{outlinesIn}
+use Rattle.sides.proofs.SameCenter.{center-started}
 use borrow.Author.Needs.{needs}
 use Rattle.sides.proofs.center_in.Statement.{statement}
 use Rattle.sides.proofs.center_in.Tie as tie
-use Rattle.sides.proofs.center_in.Reads as reads
-use Rattle.sides.proofs.center_in.Lts as lts
-use Rattle.sides.proofs.center.Reads as center-reads
-use Rattle.silhouette.proofs.start_of_part.Reads as start-of-part-reads
 
--- src/lib.rt:658:17
 element-copy-out-front : tie.Need-element-copy-out-front
 element-copy-out-front c = search needs
 
--- src/lib.rt:659:24
 sub-back : tie.Need-sub-back
 sub-back c = search needs
 
--- src/lib.rt:659:16
 mul-back : tie.Need-mul-back
 mul-back c = search needs
 
--- src/lib.rt:659:16
 element-copy-out-back : tie.Need-element-copy-out-back
 element-copy-out-back c = search needs
 
--- src/lib.rt:662:13
 mul-p : tie.Need-mul-p
-mul-p c = ?
+mul-p c =
+    let p = c .before .before .pre in
+    let d = p .1 .drawn 0 (p .1 .some) .part in
+    let f = p .0 .count in
+    omega arith
 
--- src/lib.rt:662:13
 element-copy-out-p : tie.Need-element-copy-out-p
-element-copy-out-p c = ?
+element-copy-out-p c =
+    let p = c .before .before .pre in
+    let d = p .1 .drawn 0 (p .1 .some) .part in
+    let f = p .0 .count in
+    omega arith
 
--- src/lib.rt:663:13
 mul-q : tie.Need-mul-q
-mul-q c = ?
+mul-q c =
+    let s = c .before .before .before in
+    let some = s .pre .1 .some in
+    let d = s .pre .1 .drawn (s .args .t3 .count - 1) (omega arith) .part in
+    let f = s .pre .0 .count in
+    omega arith
 
--- src/lib.rt:663:13
 element-copy-out-q : tie.Need-element-copy-out-q
-element-copy-out-q c = ?
+element-copy-out-q c =
+    let s = c .before .before .before in
+    let some = s .pre .1 .some in
+    let d = s .pre .1 .drawn (s .args .t3 .count - 1) (omega arith) .part in
+    let f = s .pre .0 .count in
+    omega arith
 
--- src/lib.rt:667:9
 start-of-part-requires : tie.Need-start-of-part-requires
 start-of-part-requires c κs = search needs
 
--- src/lib.rt:670:9
 start-of-part-requires-2 : tie.Need-start-of-part-requires-2
 start-of-part-requires-2 c κs = search needs
 
--- src/lib.rt:664:5
 center-requires : tie.Need-center-requires
-center-requires c κs = ?
+center-requires c κs =
+    let s = c .before .before .before .before .before .before in
+    let some = s .pre .1 .some in
+    (s .pre .1 .drawn 0 some .some, s .pre .1 .drawn (s .args .t3 .count - 1) (omega arith) .some)
 
--- src/lib.rt:654:1
 returns : tie.Need-returns
-returns c = ?
+returns c =
+    let s = c .before .before .before .before .before .before .before in
+    c .center .ensures ∙ center-started (s .args .t1) (outlinesIn (s .args .segs .now)) (s .args .t3) (s .args .wanted) (s .pre .0) (s .pre .1) (c .before .before .start-of-part .ensures) (c .before .start-of-part2 .ensures)
 
 pub center-in-spec : {M : Type 1} → statement M
 center-in-spec =

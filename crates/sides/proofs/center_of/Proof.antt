@@ -1,38 +1,42 @@
+use native.Mathlib.Omega.{arith}
+use mathlib.Core.Path.{sym, _∙_}
+use Rattle.laws.proofs.Choice.{cond-yes, cond-no}
+use Rattle.sides.specs.Features.{centerOfSide}
+use Rattle.sides.proofs.Accepted.{is-drawn}
 use borrow.Author.Needs.{needs}
 use Rattle.sides.proofs.center_of.Statement.{statement}
 use Rattle.sides.proofs.center_of.Tie as tie
-use Rattle.sides.proofs.center_of.Reads as reads
-use Rattle.sides.proofs.center_of.Lts as lts
-use Rattle.mechanism.proofs.check.side_drawn.Reads as side-drawn-reads
-use Rattle.sides.proofs.center_in.Reads as center-in-reads
 
--- src/lib.rt:713:8
 side-drawn-requires : tie.Need-side-drawn-requires
 side-drawn-requires c κs = search needs
 
--- src/lib.rt:714:21
 element-copy-out-first : tie.Need-element-copy-out-first
 element-copy-out-first c = search needs
 
--- src/lib.rt:716:20
 mul-part : tie.Need-mul-part
-mul-part c = ?
+mul-part c =
+    let d = is-drawn _ _ (sym (c .before .before .side-drawn .ensures) ∙ c .before .if1 .taken) in
+    let p = d .1 .drawn 0 (d .1 .some) .part in
+    let f = d .0 .count in
+    omega arith
 
--- src/lib.rt:716:20
 element-copy-out-part : tie.Need-element-copy-out-part
-element-copy-out-part c = ?
+element-copy-out-part c =
+    let d = is-drawn _ _ (sym (c .before .before .side-drawn .ensures) ∙ c .before .if1 .taken) in
+    let p = d .1 .drawn 0 (d .1 .some) .part in
+    let f = d .0 .count in
+    omega arith
 
--- src/lib.rt:719:17
 center-in-requires : tie.Need-center-in-requires
-center-in-requires c κs = ?
+center-in-requires c κs = is-drawn _ _ (sym (c .before .before .before .side-drawn .ensures) ∙ c .before .before .if1 .taken)
 
--- src/lib.rt:717:9
 returns : tie.Need-returns
-returns c = ?
+unfolding centerOfSide
+returns c = simp (c .center-in .ensures) (sym (cond-yes _ _ (sym (c .before .before .before .before .side-drawn .ensures) ∙ c .before .before .before .if1 .taken)))
 
--- src/lib.rt:710:1
 returns-2 : tie.Need-returns-2
-returns-2 c = ?
+unfolding centerOfSide
+returns-2 c = sym (cond-no _ _ (sym (c .before .side-drawn .ensures) ∙ c .if1 .left))
 
 pub center-of-spec : {M : Type 1} → statement M
 center-of-spec =
