@@ -43,12 +43,13 @@ module _ (ps : Parts) (o : Outlines) (u : Surface) (wanted : Bool) (few : FewPar
       let t = is-part ps i few h in
       ap (λ (n : ℕ). silhouetteFrom o n (partAt ps i)) (e ∙ cond-yes _ _ t) ∙ sym (silhouette-at-part ps o i t)
 
-  pub center-started : {n m : ℕ} → DrawnSide ps u
+  pub center-started : {n m : ℕ} {c : Point} → DrawnSide ps u
       → n ≡ cond (isPart ps (firstRange u .part)) (startOfPart ps (firstRange u .part)) 0 → m ≡ cond (isPart ps (lastRange u .part)) (startOfPart ps (lastRange u .part)) 0
-      → centerOf wanted (axisOf (partAt ps (firstRange u .part) .sweep)) (silhouetteFrom o n (partAt ps (firstRange u .part))) (firstRange u) (silhouetteFrom o m (partAt ps (lastRange u .part))) (lastRange u) ≡ centerAt ps o u wanted
-  center-started d p q =
+      → c ≡ centerOf wanted (axisOf (partAt ps (firstRange u .part) .sweep)) (silhouetteFrom o n (partAt ps (firstRange u .part))) (firstRange u) (silhouetteFrom o m (partAt ps (lastRange u .part))) (lastRange u)
+      → c ≡ centerAt ps o u wanted
+  center-started d p q e =
       let some = d .some in
-      center-by ps o u wanted (started (firstRange u .part) (d .drawn 0 some .part) p) (started (lastRange u .part) (d .drawn (u .count - 1) (omega arith) .part) q)
+      e ∙ center-by ps o u wanted (started (firstRange u .part) (d .drawn 0 some .part) p) (started (lastRange u .part) (d .drawn (u .count - 1) (omega arith) .part) q)
 
   -- rows into which the counted segments were put
   pub center-put : (l : List (List Float)) {n : ℕ} {rows : List (List Float)} {c : Point} → length (o .seg) ≡ 384 → length l ≡ 384

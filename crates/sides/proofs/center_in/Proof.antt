@@ -1,6 +1,5 @@
 use Prim.Native.Nat.{_-_}
 use native.Mathlib.Omega.{arith}
-use mathlib.Core.Path.{_∙_}
 use Rattle.mechanism.specs.Segments.{outlinesIn}
 use Rattle.sides.proofs.SameCenter.{center-started}
 use borrow.Author.Needs.{needs}
@@ -64,7 +63,7 @@ center-requires c κs =
 returns : tie.Need-returns
 returns c =
     let s = c .before .before .before .before .before .before .before in
-    c .center .ensures ∙ center-started (s .args .t1) (outlinesIn (s .args .segs .now)) (s .args .t3) (s .args .wanted) (s .pre .0) (s .pre .1) (c .before .before .start-of-part .ensures) (c .before .start-of-part2 .ensures)
+    center-started (s .args .t1) (outlinesIn (s .args .segs .now)) (s .args .t3) (s .args .wanted) (s .pre .0) (s .pre .1) (c .before .before .start-of-part .ensures) (c .before .start-of-part2 .ensures) (c .center .ensures)
 
 pub center-in-spec : {M : Type 1} → statement M
 center-in-spec =
