@@ -4,6 +4,7 @@ pub mod Growth
 pub mod Walked
 pub mod Sizes
 pub mod Silhouettes
+pub mod SameCenter
 pub mod Pairwise
 pub mod Accepted
 pub mod Few

@@ -12,8 +12,11 @@ use lib.ListN.{length, take, set, getD, List·getD-map, length-map}
 use lib.Seq.{getD-take, length-take-le, take-suc, take-suc-set}
 use Rattle.laws.specs.Fill.{range}
 use Rattle.laws.proofs.Choice.{cond-yes, cond-no}
+use Rattle.laws.proofs.Fill.{range-turn, range-done}
 use Rattle.ieee.specs.Num.{sameOf}
+use Rattle.geometry.specs.Geometry.{startOf}
 use Rattle.geometry.specs.declared.Point.{Point}
+use Rattle.geometry.specs.declared.Seg.{Seg}
 use Rattle.mechanism.specs.Description.{noSeg, noRange}
 use Rattle.mechanism.specs.declared.part.SurfaceRef.{SurfaceRef}
 use Rattle.silhouette.specs.Silhouette.{segOf, segsIn}
@@ -31,7 +34,7 @@ use Rattle.corners.specs.Corners.{runBack}
 use Rattle.sides.specs.Features.{Run, forwardStep, backwardStep, segIn, runOf, runsIn, runAt, stepAt, noStep, stepsIn, forwardOf, backwardOf, crossingOf}
 
 module _ (sil : SilhouetteSegs) (i : ℕ) (l : sil .count ≤ length (sil .seg)) (h : i < sil .count) where
-  pub seg-held : segIn (segsIn sil) i ≡ segOf (getD (sil .seg) i noSeg)
+  seg-held : segIn (segsIn sil) i ≡ segOf (getD (sil .seg) i noSeg)
   seg-held = held-at (sil .count) (sil .seg) i l h
 
   pub forward-at : forwardStep (segsIn sil) i ≡ record { named = i % sil .count; starts = i % sil .count; seg = SomeSeg (segOf (getD (sil .seg) i noSeg)) }
@@ -91,17 +94,24 @@ module _ (r : SurfaceRef) (sil : SilhouetteSegs) (s : Steps) (l : sil .count ≤
   backward-run b a e p q = run-by (r .part) true count e (p ∙ ap runBack (sym at-after)) (q ∙ ap runBack (sym at-before)) (ap (eqb (r .end - r .start)) (sym long)) refl
 
 -- ---- the first point on the axis
-pub cross-hit : (axis : Float) (p : Point) (ps : List Point) → sameOf (p .x) axis ≡ true → crossingOf axis (p ∷ ps) ≡ SomePoint p
-unfolding crossingOf
-cross-hit axis p ps e = cond-yes _ _ e
+abbrev starts : List Seg → ℕ → ℕ → List Point
+starts l i past = map (λ j. startOf (segIn l j)) (range i past)
 
-pub cross-miss : (axis : Float) (p : Point) (ps : List Point) → sameOf (p .x) axis ≡ false → crossingOf axis (p ∷ ps) ≡ crossingOf axis ps
-unfolding crossingOf
-cross-miss axis p ps e = cond-no _ _ e
+module _ (axis : Float) (l : List Seg) (i past : ℕ) where
+  starts-turn : {q : Point} → i < past → q ≡ startOf (segIn l i) → starts l i past ≡ q ∷ starts l (i + 1) past
+  starts-turn h e = ap (map (λ j. startOf (segIn l j))) (range-turn i past h) ∙ ap (λ (p : Point). p ∷ starts l (i + 1) past) (sym e)
 
-pub cross-none : (axis : Float) → crossingOf axis [] ≡ NoPoint
-unfolding crossingOf
-cross-none axis = refl
+  pub cross-hit : {q : Point} → i < past → q ≡ startOf (segIn l i) → sameOf (q .x) axis ≡ true → SomePoint q ≡ crossingOf axis (starts l i past)
+  unfolding crossingOf
+  cross-hit h e t = sym (ap (crossingOf axis) (starts-turn h e) ∙ cond-yes _ _ t)
+
+  pub cross-miss : {q : Point} → i < past → q ≡ startOf (segIn l i) → sameOf (q .x) axis ≡ false → crossingOf axis (starts l (i + 1) past) ≡ crossingOf axis (starts l i past)
+  unfolding crossingOf
+  cross-miss h e t = sym (ap (crossingOf axis) (starts-turn h e) ∙ cond-no _ _ t)
+
+  pub cross-none : past ≤ i → NoPoint ≡ crossingOf axis (starts l i past)
+  unfolding crossingOf
+  cross-none h = sym (ap (λ (m : List ℕ). crossingOf axis (map (λ j. startOf (segIn l j)) m)) (range-done i past h))
 
 -- ---- one traversal more
 pub runs-more : (f : SurfaceRef → Run) (all : List Traversal) (ranges : List SurfaceRef) (k : ℕ) (t : Traversal) → k < length all → k < length ranges

@@ -9,7 +9,8 @@ ghost use Rattle.laws.specs.Loops.{joinIn};
 ghost use Rattle.geometry.specs.Geometry.{startOf};
 ghost use Rattle.mechanism.specs.Check.{FewParts};
 ghost use Rattle.mechanism.specs.declared.features.Piece.the-variants as Piece;
-ghost use Rattle.silhouette.specs.Silhouette.{segsIn};
+ghost use Rattle.mechanism.specs.Segments.{outlinesIn};
+ghost use Rattle.silhouette.specs.Silhouette.{segsIn, axisOf, silhouetteFrom};
 ghost use Rattle.corners.specs.Corners.{faceOf, arcOf, cornerOf};
 ghost use Rattle.sides.specs.Features.{forwardStep, backwardStep, forwardOf, backwardOf, traverseOf, segIn, placedFace, placedDisc, facesAt, discsAt, firstSeg, lastSeg, meets, previousAt, rangeFaces, rangeDiscs, stepDiscs, endDiscs, lastBefore, firstAfter, facesOf, discsOf, crossingOf, middleOf, pointOr, onAxis, centerOf, centerAt, traversalOf, traversalsOf, runOf, stepsIn, runsIn, noFace, noDisc, Grown, sideOf, centerOfSide};
 ghost use Rattle.sides.specs.Bounds.{Runs, DrawnRange, DrawnSide};
@@ -34,6 +35,7 @@ use ieee::num::same;
 use mechanism::Outlines;
 use mechanism::Parts;
 use mechanism::check::same_point;
+use mechanism::check::segs_counted;
 use mechanism::check::side_drawn;
 use mechanism::features::Piece;
 use mechanism::pair::Surface;
@@ -42,10 +44,14 @@ use mechanism::part::Part;
 use mechanism::part::Role;
 use mechanism::part::SurfaceRef;
 use mechanism::part::Sweep;
+use mechanism::segments::SegRow;
+use mechanism::segments::put_segs;
 use silhouette::MaybeAxis;
 use silhouette::SilhouetteSegs;
 use silhouette::axis;
+use silhouette::rows::silhouette_seg;
 use silhouette::silhouette_at;
+use silhouette::start_of_part;
 
 enum MaybePoint {
     NoPoint,
@@ -511,31 +517,43 @@ fn read_all(ts: Traversals) -> Features
 
 // ---- the centre of a side's drawn face
 
-// The first start on the axis among the segments `first` to `past`, the last left out.
-fn crossing(sil: SilhouetteSegs, first: usize, past: usize, axis: f64) -> MaybePoint
-    requires { ⌜ (past ≤ sil .count) × (sil .count ≤ 94) ⌝ }
-    ensures { λ r. ⌜ r ≡ crossingOf axis (map (λ i. startOf (segIn (segsIn sil) i)) (range first past)) ⌝ }
+// The first start on the axis among the segments `from` to `past`, the last left out, of the silhouette of a part whose outline starts in row `first`.
+fn crossing(
+    segs: &[SegRow],
+    first: usize,
+    p: Part,
+    from: usize,
+    past: usize,
+    axis: f64,
+) -> MaybePoint
+    ensures { λ r. ⌜ r ≡ crossingOf axis (map (λ i. startOf (segIn (silhouetteFrom (outlinesIn (now (segs .entry))) first p) i)) (range from past)) ⌝ }
 {
-    let mut i = first;
+    let mut i = from;
     while i < past {
-        let b = sil.seg[i];
-        let g = b.seg;
-        let p = g.start();
+        let g = silhouette_seg(segs, first, p, i);
+        let q = g.start();
         i += 1;
-        if same(p.x, axis) {
-            return MaybePoint::SomePoint(p);
+        if same(q.x, axis) {
+            return MaybePoint::SomePoint(q);
         }
     }
     MaybePoint::NoPoint
 }
 
-fn on_axis(wanted: bool, about: MaybeAxis, sil: SilhouetteSegs, range: SurfaceRef) -> MaybePoint
-    requires { ⌜ (range .end ≤ sil .count) × (sil .count ≤ 94) × (range .start < range .end) ⌝ }
-    ensures { λ r. ⌜ r ≡ onAxis wanted about (segsIn sil) range ⌝ }
+fn on_axis(
+    wanted: bool,
+    about: MaybeAxis,
+    segs: &[SegRow],
+    first: usize,
+    p: Part,
+    range: SurfaceRef,
+) -> MaybePoint
+    requires { ⌜ range .start < range .end ⌝ }
+    ensures { λ r. ⌜ r ≡ onAxis wanted about (silhouetteFrom (outlinesIn (now (segs .entry))) first p) range ⌝ }
 {
     if wanted {
         match about {
-            MaybeAxis::SomeAxis(x) => crossing(sil, range.start + 1, range.end, x),
+            MaybeAxis::SomeAxis(x) => crossing(segs, first, p, range.start + 1, range.end, x),
             MaybeAxis::NoAxis => MaybePoint::NoPoint,
         }
     } else {
@@ -561,29 +579,24 @@ fn point_or(m: MaybePoint, p: Point) -> Point
     }
 }
 
-fn seg_at(sil: SilhouetteSegs, i: usize) -> Seg
-    requires { ⌜ (i < sil .count) × (sil .count ≤ 94) ⌝ }
-    ensures { λ r. ⌜ r ≡ segIn (segsIn sil) i ⌝ }
-{
-    let b = sil.seg[i];
-    let g = b.seg;
-    g
-}
-
+// The centre of a side whose first range is of the part p, with its outline from row `first` on, and its last range of the part q, with its outline from row `last` on.
 fn center(
     wanted: bool,
-    about: MaybeAxis,
-    sil: SilhouetteSegs,
-    first: SurfaceRef,
-    others: SilhouetteSegs,
-    last: SurfaceRef,
+    segs: &[SegRow],
+    first: usize,
+    p: Part,
+    front: SurfaceRef,
+    last: usize,
+    q: Part,
+    back: SurfaceRef,
 ) -> Point
-    requires { ⌜ (first .start < first .end) × (first .end ≤ sil .count) × (sil .count ≤ 94) × (last .start < last .end) × (last .end ≤ others .count) × (others .count ≤ 94) ⌝ }
-    ensures { λ r. ⌜ r ≡ centerOf wanted about (segsIn sil) first (segsIn others) last ⌝ }
+    requires { ⌜ (front .start < front .end) × (back .start < back .end) ⌝ }
+    ensures { λ r. ⌜ r ≡ centerOf wanted (axisOf (p .sweep)) (silhouetteFrom (outlinesIn (now (segs .entry))) first p) front (silhouetteFrom (outlinesIn (now (segs .entry))) last q) back ⌝ }
 {
-    let m = on_axis(wanted, about, sil, first);
-    let a = seg_at(sil, first.start);
-    let b = seg_at(others, last.end - 1);
+    let sweep = p.sweep;
+    let m = on_axis(wanted, axis(sweep), segs, first, p, front);
+    let a = silhouette_seg(segs, first, p, front.start);
+    let b = silhouette_seg(segs, last, q, back.end - 1);
     point_or(m, middle(a.start(), b.end()))
 }
 
@@ -637,18 +650,36 @@ fn traversals_of(ps: Parts, o: Outlines, u: Surface) -> Traversals
     }
 }
 
+// The centre of a side of outlines that stand in rows.
+fn center_in(ps: Parts, segs: &[SegRow], u: Surface, wanted: bool) -> Point
+    requires { ⌜ FewParts ps × DrawnSide ps u ⌝ }
+    ensures { λ r. ⌜ r ≡ centerAt ps (outlinesIn (now (segs .entry))) u wanted ⌝ }
+{
+    let front = u.range[0];
+    let back = u.range[u.count - 1];
+    let i = front.part;
+    let j = back.part;
+    let p = ps.part[i];
+    let q = ps.part[j];
+    center(
+        wanted,
+        segs,
+        start_of_part(ps, i),
+        p,
+        front,
+        start_of_part(ps, j),
+        q,
+        back,
+    )
+}
+
 fn center_at(ps: Parts, o: Outlines, u: Surface, wanted: bool) -> Point
     requires { ⌜ FewParts ps × DrawnSide ps u ⌝ }
     ensures { λ r. ⌜ r ≡ centerAt ps o u wanted ⌝ }
 {
-    let first = u.range[0];
-    let last = u.range[u.count - 1];
-    let i = first.part;
-    let part = ps.part[i];
-    let sweep = part.sweep;
-    let sil = silhouette_at(ps, o, i);
-    let others = silhouette_at(ps, o, last.part);
-    center(wanted, axis(sweep), sil, first, others, last)
+    let mut segs = [[0.0; 8]; 384];
+    put_segs(&mut segs, o, segs_counted(ps));
+    center_in(ps, &segs, u, wanted)
 }
 
 // One side of a pair, read into its body's frame; `wanted` asks for the centre on the axis of a turned part.
@@ -675,9 +706,9 @@ fn side(ps: Parts, o: Outlines, u: Surface, wanted: bool) -> SideFeatures
     }
 }
 
-// The centre of a side's drawn face, as `side` gives it, for any values: on the ground's origin where the side is not drawn.
-pub fn center_of(ps: Parts, o: Outlines, u: Surface, wanted: bool) -> MaterialPoint
-    ensures { λ r. ⌜ r ≡ centerOfSide ps o u wanted ⌝ }
+// The centre of a side's drawn face, as `side` gives it, of outlines that stand in rows, for any values: on the ground's origin where the side is not drawn.
+pub fn center_of(ps: Parts, segs: &[SegRow], u: Surface, wanted: bool) -> MaterialPoint
+    ensures { λ r. ⌜ r ≡ centerOfSide ps (outlinesIn (now (segs .entry))) u wanted ⌝ }
 {
     if side_drawn(ps, u) {
         let first = u.range[0];
@@ -685,7 +716,7 @@ pub fn center_of(ps: Parts, o: Outlines, u: Surface, wanted: bool) -> MaterialPo
         let part = ps.part[i];
         return MaterialPoint {
             body: part.body,
-            at: center_at(ps, o, u, wanted),
+            at: center_in(ps, segs, u, wanted),
         };
     }
     MaterialPoint {

@@ -1,19 +1,22 @@
-use borrow.Author.Needs.{needs}
 use Rattle.sides.specs.Features.{centerOf}
+use borrow.Author.Needs.{needs}
 use Rattle.sides.proofs.center.Statement.{statement}
 use Rattle.sides.proofs.center.Tie as tie
+
+axis-requires : tie.Need-axis-requires
+axis-requires c κs = search needs
 
 on-axis-requires : tie.Need-on-axis-requires
 on-axis-requires c κs = search needs
 
-seg-at-requires : tie.Need-seg-at-requires
-seg-at-requires c κs = search needs
+silhouette-seg-requires : tie.Need-silhouette-seg-requires
+silhouette-seg-requires c κs = search needs
 
-sub-seg-at : tie.Need-sub-seg-at
-sub-seg-at c = search needs
+sub-silhouette-seg : tie.Need-sub-silhouette-seg
+sub-silhouette-seg c = search needs
 
-seg-at-requires-2 : tie.Need-seg-at-requires-2
-seg-at-requires-2 c κs = search needs
+silhouette-seg-requires-2 : tie.Need-silhouette-seg-requires-2
+silhouette-seg-requires-2 c κs = search needs
 
 start-requires : tie.Need-start-requires
 start-requires c κs = search needs
@@ -29,16 +32,17 @@ point-or-requires c κs = search needs
 
 returns : tie.Need-returns
 unfolding centerOf
-returns c = simp (c .point-or .ensures, c .before .middle .ensures, c .before .before .end .ensures, c .before .before .before .start .ensures, c .before .before .before .before .seg-at2 .ensures, c .before .before .before .before .before .before .seg-at .ensures, c .before .before .before .before .before .before .before .on-axis .ensures)
+returns c = simp (c .point-or .ensures, c .before .middle .ensures, c .before .before .end .ensures, c .before .before .before .start .ensures, c .before .before .before .before .silhouette-seg2 .ensures, c .before .before .before .before .before .before .silhouette-seg .ensures, c .before .before .before .before .before .before .before .on-axis .ensures, c .before .before .before .before .before .before .before .before .axis .ensures)
 
 pub center-spec : {M : Type 1} → statement M
 center-spec =
     tie.close
     (tie.spec
+    axis-requires
     on-axis-requires
-    seg-at-requires
-    sub-seg-at
-    seg-at-requires-2
+    silhouette-seg-requires
+    sub-silhouette-seg
+    silhouette-seg-requires-2
     start-requires
     end-requires
     middle-requires

@@ -27,12 +27,12 @@ element-copy-out-part c =
     let f = d .0 .count in
     omega arith
 
-center-at-requires : tie.Need-center-at-requires
-center-at-requires c κs = is-drawn _ _ (sym (c .before .before .before .side-drawn .ensures) ∙ c .before .before .if1 .taken)
+center-in-requires : tie.Need-center-in-requires
+center-in-requires c κs = is-drawn _ _ (sym (c .before .before .before .side-drawn .ensures) ∙ c .before .before .if1 .taken)
 
 returns : tie.Need-returns
 unfolding centerOfSide
-returns c = simp (c .center-at .ensures) (sym (cond-yes _ _ (sym (c .before .before .before .before .side-drawn .ensures) ∙ c .before .before .before .if1 .taken)))
+returns c = simp (c .center-in .ensures) (sym (cond-yes _ _ (sym (c .before .before .before .before .side-drawn .ensures) ∙ c .before .before .before .if1 .taken)))
 
 returns-2 : tie.Need-returns-2
 unfolding centerOfSide
@@ -46,6 +46,6 @@ center-of-spec =
     element-copy-out-first
     mul-part
     element-copy-out-part
-    center-at-requires
+    center-in-requires
     returns
     returns-2)

@@ -18,7 +18,7 @@ returns : tie.Need-returns
 returns c = simp (c .before .before .before .about .given .1, c .before .before .before .before .before .if1 .taken, c .crossing .ensures)
 
 returns-2 : tie.Need-returns-2
-returns-2 c = search needs
+returns-2 c = simp (c .enum-told .given .1, c .before .before .if1 .taken)
 
 returns-3 : tie.Need-returns-3
 returns-3 c = search needs
