@@ -2,8 +2,8 @@
 ghost use mathlib.Core.Path.{_≡_};
 ghost use mathlib.Core.Bool.{not, _||_};
 ghost use Prim.Native.Nat.{_+_, _≤_, _<_};
-ghost use Rattle.mechanism.specs.Description.{partAt, startOfPart, silhouetteLength, rangeLength, turnedLength};
-ghost use Rattle.bodies.specs.Check.{isAccepted, firstRefused};
+ghost use Rattle.mechanism.specs.Description.{startOfPart, silhouetteLength, rangeLength, turnedLength};
+ghost use Rattle.bodies.specs.Check.{isAccepted};
 ghost use Rattle.mechanism.specs.Segments.{outlinesIn, described, segsCounted};
 ghost use Rattle.mechanism.specs.Check.{sideOver, pairOver, partsOver, pairsOver, limitsPassed, noDir, jointLacks, sweepLacks, segLacks, bodiesLack, partsLack, outlinesLack, pointFinite, samePoint, segOpen, outlineOpen, partChecked, partsChecked, partDraws, isWrong, withBody, withDrawn, sideEnd, sideBody, sidesChecked, pairsChecked, checkOf, thenCalled, callChecked, isOn, sideDrawn, pairDrawn, FewParts, FewPairs};
 use super::Mechanism;

@@ -3,20 +3,21 @@ use Prim.Native.Nat.{ℕ, zero, suc, _+_, _-_, _<_, _≤_}
 use native.Mathlib.Omega.{arith}
 use native.Mathlib.Numerals.{add-one}
 use mathlib.Core.Path.{_≡_, refl, sym, ap, ap₂, subst, _∙_}
-use mathlib.Core.Bool.{Bool, true, false, cond}
+use mathlib.Core.Bool.{Bool, true, false, not, cond}
 use mathlib.Core.List.{List, [], _∷_, _++_, map, reverse}
 use lib.Dec.{eqb, ltb}
 use lib.Ieee.{Float}
 use lib.ListN.{length, getD, take, drop, set, length-map, length-set, length-drop, length-reverse, List·getD-map, List·getD-append, List·getD-eq-default}
-use lib.Seq.{drop-cons, getD-take, getD-drop, getD-set-same, getD-set-other, getD-append-add, length-take-le, take-all, take-length}
+use lib.Seq.{sets, length-sets, drop-cons, getD-take, getD-drop, getD-set-same, getD-set-other, getD-append-add, length-take-le, take-all, take-length}
 use borrow.Author.Tests.{eqb-true, eqb-false, eq-eqb, ne-eqb, ltb-true, ltb-false, le-leb, lt-leb}
-use Rattle.laws.proofs.Choice.{cond-yes, cond-no}
+use Rattle.laws.proofs.Choice.{and-no, cond-yes, cond-no}
 use Rattle.laws.proofs.Fill.{reverse-take}
 use Rattle.laws.proofs.Sums.{sum-part}
 use Rattle.geometry.specs.declared.Seg.{Seg}
 use Rattle.mechanism.specs.Description.{noSeg, segAt, partAt, segsOf, startOfPart, turnedLength, silhouetteLength}
-use Rattle.mechanism.specs.Segments.{outlinesIn, SameSegs}
-use Rattle.mechanism.proofs.SegRows.{rows-long}
+use Rattle.mechanism.specs.Check.{partsOver}
+use Rattle.mechanism.specs.Segments.{outlinesIn, segRows, segsFit, segsCounted, SameSegs}
+use Rattle.mechanism.proofs.SegRows.{rows-long, same-segs, fits-here}
 use Rattle.mechanism.specs.declared.Outlines.{Outlines}
 use Rattle.mechanism.specs.declared.Parts.{Parts}
 use Rattle.mechanism.specs.declared.part.OutlineSeg.{OutlineSeg}
@@ -176,6 +177,32 @@ module _ (ps : Parts) (o o′ : Outlines) (s : SameSegs (startOfPart ps (ps .cou
       go : (t : Bool) → isPart ps i ≡ t → cond t (silhouetteOf (partAt ps i .sweep) (outlineOf ps o i)) [] ≡ cond t (silhouetteOf (partAt ps i .sweep) (outlineOf ps o′ i)) []
       go true e = ap (silhouetteOf (partAt ps i .sweep)) (outline-same i (part-of ps i e .1))
       go false e = refl
+
+-- rows into which the counted segments were put give the same silhouettes
+module _ (ps : Parts) (o : Outlines) (l : List (List Float)) {n : ℕ} {rows : List (List Float)} (long : length (o .seg) ≡ 384) (counted : (n ≡ segsCounted ps) × (n ≤ 384)) (room : n ≤ length l)
+    (put : rows ≡ cond (segsFit n (length l)) (sets l 0 (segRows o n)) l) where
+  put-here : rows ≡ sets l 0 (segRows o n)
+  put-here = put ∙ cond-yes _ _ (fits-here n (length l) (counted .1) room)
+
+  pub put-long : length (outlinesIn rows .seg) ≡ length l
+  put-long = rows-long rows ∙ ap length put-here ∙ length-sets l 0 (segRows o n)
+
+  put-segs-same : SameSegs n (outlinesIn rows) o
+  put-segs-same = subst (λ (r : List (List Float)). SameSegs n (outlinesIn r) o) (sym put-here) (same-segs o n (let b = counted .1 in omega (arith, b, long)) l room)
+
+  pub put-same : (i : ℕ) → silhouetteAt ps (outlinesIn rows) i ≡ silhouetteAt ps o i
+  unfolding silhouetteAt
+  put-same i = go (partsOver ps) refl
+    where
+      go : (t : Bool) → partsOver ps ≡ t → silhouetteAt ps (outlinesIn rows) i ≡ silhouetteAt ps o i
+      go true e =
+          let none = and-no (ltb i (ps .count)) (ap not e) in
+          cond-no _ _ none ∙ sym (cond-no _ _ none)
+      go false e =
+          let total : n ≡ startOfPart ps (ps .count) = counted .0 ∙ cond-no _ _ e in
+          let b = counted .1 in
+          let k = put-long in
+          silhouette-same ps (outlinesIn rows) o (subst (λ (j : ℕ). SameSegs j (outlinesIn rows) o) total put-segs-same) (omega (arith, total, k, room)) (omega (arith, total, b, long)) i
 
 -- ---- what the code asks for
 module _ (rows : List (List Float)) (first n : ℕ) where

@@ -1,8 +1,6 @@
 // The silhouette of a part whose outline stands in lent rows, segment by segment.
 ghost use mathlib.Core.Path.{_≡_};
-ghost use mathlib.Core.Bool.{cond};
 ghost use Prim.Native.Nat.{_+_, _-_, _<_, _≤_};
-ghost use lib.Dec.{ltb};
 ghost use lib.ListN.{length, getD};
 ghost use Rattle.mechanism.specs.Description.{segAt};
 ghost use Rattle.mechanism.specs.Segments.{outlinesIn};

@@ -1,7 +1,7 @@
 use borrow.Author.Needs.{needs}
 use native.Mathlib.Omega.{arith}
 use Prim.Native.Nat.{_-_, _≤_}
-use mathlib.Core.Path.{refl, _∙_}
+use mathlib.Core.Path.{refl}
 use mathlib.Core.List.{map}
 use lib.ListN.{drop, take}
 use Rattle.laws.specs.Loops.{Writing}
