@@ -9,10 +9,10 @@ use lib.Dec.{eqb, leb}
 use lib.Ieee.{Float}
 use lib.ListN.{length, getD, set, length-map, length-append, length-set}
 use lib.Seq.{sets, length-sets}
-use borrow.Author.Tests.{eqb-true, leb-true}
+use borrow.Author.Tests.{eqb-true, leb-true, le-leb}
 use Rattle.laws.specs.Lists.{flat}
 use Rattle.laws.specs.Loops.{foldIn, filterIn, Writing}
-use Rattle.laws.proofs.Choice.{cond-yes, cond-no, both, not-yes}
+use Rattle.laws.proofs.Choice.{and-yes, cond-yes, cond-no, both, not-yes}
 use Rattle.laws.proofs.Lists.{filter-count, flat-append, flat-map, flat-none, filter-within}
 use Rattle.laws.proofs.Loops.{filter-yes, filter-no, filter-done}
 use Rattle.laws.proofs.Sums.{sum-scaled, sum-more, sum-mono, sums-within, sum-ones}
@@ -25,7 +25,7 @@ use Rattle.mechanism.proofs.SegRows.{rows-long}
 use Rattle.bodies.specs.Pose.{worldOf}
 use Rattle.bodies.specs.declared.pose.Placement.{Placement}
 use Rattle.silhouette.specs.Silhouette.{silhouetteFrom, silhouetteCount}
-use Rattle.mechanism.proofs.Checks.{few-parts}
+use Rattle.mechanism.proofs.Checks.{few-parts, parts-few}
 use Rattle.mechanism.specs.declared.Outlines.{Outlines}
 use Rattle.mechanism.specs.declared.Parts.{Parts}
 use Rattle.bodies.specs.declared.pose.Pose.{Pose}
@@ -212,6 +212,12 @@ has-room-from ps n m segs e =
     let f = leb-true (drawnMost ps) n (b .0) in
     let g = leb-true (segsCounted ps) segs (d .1) in
     (few-parts ps (not-yes (partsOver ps) (a .0)), omega (arith, k, f), leb-true 33 m (d .0), omega (arith, k, g))
+
+pub room-from-here : (ps : Parts) (n m segs : ℕ) → FewParts ps → 16 * startOfPart ps (ps .count) ≤ n → 33 ≤ m → startOfPart ps (ps .count) ≤ segs → roomFrom ps n m segs ≡ true
+room-from-here ps n m segs few a b d =
+    let over = parts-few ps few in
+    let k = cond-no 0 (startOfPart ps (ps .count)) over in
+    and-yes _ (ap not over) ∙ and-yes _ (le-leb (drawnMost ps) n (omega (arith, k, a))) ∙ and-yes _ (le-leb 33 m b) ∙ le-leb (segsCounted ps) segs (omega (arith, k, d))
 
 pub has-room : (ps : Parts) (n m : ℕ) → roomFor ps n m ≡ true → FewParts ps × (6144 ≤ n) × (33 ≤ m)
 has-room ps n m e =

@@ -5,3 +5,4 @@ pub mod Mouths
 pub mod Sides
 pub mod Laid
 pub mod Lays
+pub mod Same

@@ -1,52 +1,46 @@
+use mathlib.Core.Path.{refl, sym, _∙_}
+use lib.ListN.{replicate}
+use Rattle.ieee.specs.Consts.{zeroF}
+use Rattle.mechanism.proofs.Known.{outlines-long}
+use Rattle.drawing.proofs.Draws.{none-drawn}
+use Rattle.drawing.proofs.Same.{drawn-put}
 use borrow.Author.Needs.{needs}
 use Rattle.drawing.proofs.draw.Statement.{statement}
 use Rattle.drawing.proofs.draw.Tie as tie
-use Rattle.drawing.proofs.draw.Reads as reads
-use Rattle.drawing.proofs.draw.Lts as lts
-use Rattle.drawing.proofs.draw_from.Reads as draw-from-reads
-use Rattle.drawing.proofs.room_for.Reads as room-for-reads
-use Rattle.mechanism.proofs.check.segs_counted.Reads as segs-counted-reads
-use Rattle.mechanism.proofs.segments.put_segs.Reads as put-segs-reads
 
--- src/lib.rt:321:8
 room-for-requires : tie.Need-room-for-requires
 room-for-requires c κs = search needs
 
--- src/lib.rt:323:18
 slice-aggregate-put-segs : tie.Need-slice-aggregate-put-segs
 slice-aggregate-put-segs c = search needs
 
--- src/lib.rt:323:32
 segs-counted-requires : tie.Need-segs-counted-requires
 segs-counted-requires c κs = search needs
 
--- src/lib.rt:323:9
 put-segs-requires : tie.Need-put-segs-requires
 put-segs-requires c κs = search needs
 
--- src/lib.rt:324:46
 slice-aggregate-draw-from : tie.Need-slice-aggregate-draw-from
 slice-aggregate-draw-from c = search needs
 
--- src/lib.rt:324:9
 draw-from-requires : tie.Need-draw-from-requires
 draw-from-requires c κs = search needs
 
--- src/lib.rt:324:9
 same-length : tie.Need-same-length
 same-length c = search needs
 
--- src/lib.rt:324:9
 same-length-2 : tie.Need-same-length-2
 same-length-2 c = search needs
 
--- src/lib.rt:324:9
 returns : tie.Need-returns
-returns c = ?
+returns c =
+    let s = c .before .before .before .before .before .before .before .before .before .before .before .before .before .before in
+    drawn-put (s .args .ps) (s .args .o) (s .args .q) (s .args .c) (s .args .points .now) (s .args .starts .now) (replicate 384 (replicate 8 zeroF)) (outlines-long (s .args .o) _ (s .good .1 .1 .1 .0)) refl (c .before .before .before .before .before .before .before .before .before .segs-counted .ensures) (c .before .before .before .before .before .before .before .before .put-segs .ensures) (sym (c .before .before .before .before .before .before .before .before .before .before .before .before .room-for .ensures) ∙ c .before .before .before .before .before .before .before .before .before .before .before .if1 .taken) (c .before .before .before .draw-from .ensures)
 
--- src/lib.rt:309:1
 returns-2 : tie.Need-returns-2
-returns-2 c = ?
+returns-2 c =
+    let s = c .before .before .before .args in
+    none-drawn _ (s .points .now) (s .starts .now) _ _ (sym (c .before .room-for .ensures) ∙ c .if1 .left)
 
 pub draw-spec : {M : Type 1} → statement M
 draw-spec =

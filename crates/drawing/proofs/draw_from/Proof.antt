@@ -1,42 +1,48 @@
+use native.Mathlib.Omega.{arith}
 use borrow.Author.Needs.{needs}
+use mathlib.Core.Path.{sym, _∙_}
+use Rattle.drawing.proofs.Draws.{long-starts, first-asks, second-asks, all-starts-long, all-points-long, all-drawn, none-drawn}
 use Rattle.drawing.proofs.draw_from.Statement.{statement}
 use Rattle.drawing.proofs.draw_from.Tie as tie
-use Rattle.drawing.proofs.draw_from.Reads as reads
-use Rattle.drawing.proofs.draw_from.Lts as lts
-use Rattle.drawing.proofs.draw_all.Reads as draw-all-reads
-use Rattle.drawing.proofs.room_from.Reads as room-from-reads
 
--- src/lib.rt:284:8
 room-from-requires : tie.Need-room-from-requires
 room-from-requires c κs = search needs
 
--- src/lib.rt:285:9
 slice-write-starts : tie.Need-slice-write-starts
-slice-write-starts c = ?
+slice-write-starts c =
+    let s = c .before .before .before .args in
+    let r = long-starts (s .ps) (s .segs .now) (s .q) (s .c) (s .points .now) (s .starts .now) (sym (c .before .room-from .ensures) ∙ c .if1 .taken) in
+    omega arith
 
--- src/lib.rt:287:13
 draw-all-requires : tie.Need-draw-all-requires
-draw-all-requires c κs = ?
+draw-all-requires c κs =
+    let s = c .before .before .before .before .before .args in
+    first-asks (s .ps) (s .segs .now) (s .q) (s .c) (s .points .now) (s .starts .now) (sym (c .before .before .before .room-from .ensures) ∙ c .before .before .if1 .taken)
 
--- src/lib.rt:288:13
 draw-all-requires-2 : tie.Need-draw-all-requires-2
-draw-all-requires-2 c κs = ?
+draw-all-requires-2 c κs =
+    let s = c .before .before .before .before .before .before .before .before .before .before .before .args in
+    second-asks (s .ps) (s .segs .now) (s .q) (s .c) (s .points .now) (s .starts .now) (sym (c .before .before .before .before .before .before .before .before .before .room-from .ensures) ∙ c .before .before .before .before .before .before .before .before .if1 .taken) (c .before .before .before .before .before .draw-all .ensures)
 
--- src/lib.rt:289:9
 same-length : tie.Need-same-length
-same-length c = search needs
+same-length c =
+    let s = c .before .before .before .before .before .before .before .before .before .before .before .before .before .before .before .args in
+    all-points-long (s .ps) (s .segs .now) (s .q) (s .c) (s .points .now) (s .starts .now) (sym (c .before .before .before .before .before .before .before .before .before .before .before .before .before .room-from .ensures) ∙ c .before .before .before .before .before .before .before .before .before .before .before .before .if1 .taken) (c .before .before .before .before .before .before .before .before .before .draw-all .ensures) (c .before .before .before .draw-all2 .ensures)
 
--- src/lib.rt:289:9
 same-length-2 : tie.Need-same-length-2
-same-length-2 c = ?
+same-length-2 c =
+    let s = c .before .before .before .before .before .before .before .before .before .before .before .before .before .before .before .args in
+    all-starts-long (s .ps) (s .segs .now) (s .q) (s .c) (s .points .now) (s .starts .now) (sym (c .before .before .before .before .before .before .before .before .before .before .before .before .before .room-from .ensures) ∙ c .before .before .before .before .before .before .before .before .before .before .before .before .if1 .taken) (c .before .before .before .before .before .before .before .before .before .draw-all .ensures) (c .before .before .before .draw-all2 .ensures)
 
--- src/lib.rt:289:9
 returns : tie.Need-returns
-returns c = ?
+returns c =
+    let s = c .before .before .before .before .before .before .before .before .before .before .before .before .before .before .before .args in
+    all-drawn (s .ps) (s .segs .now) (s .q) (s .c) (s .points .now) (s .starts .now) (sym (c .before .before .before .before .before .before .before .before .before .before .before .before .before .room-from .ensures) ∙ c .before .before .before .before .before .before .before .before .before .before .before .before .if1 .taken) (c .before .before .before .before .before .before .before .before .before .draw-all .ensures) (c .before .before .before .draw-all2 .ensures)
 
--- src/lib.rt:271:1
 returns-2 : tie.Need-returns-2
-returns-2 c = ?
+returns-2 c =
+    let s = c .before .before .before .args in
+    none-drawn _ (s .points .now) (s .starts .now) _ _ (sym (c .before .room-from .ensures) ∙ c .if1 .left)
 
 pub draw-from-spec : {M : Type 1} → statement M
 draw-from-spec =
