@@ -13,25 +13,23 @@ use lib.Seq.{sets, take-at, drop-at, take-append-seam, drop-append-seam, take-le
 use Rattle.laws.specs.Lists.{listIn, flat}
 use Rattle.laws.specs.Loops.{filterIn}
 use Rattle.laws.proofs.Fill.{map-back}
-use Rattle.laws.proofs.Lists.{list-get, list-as, flat-append, flat-short, filter-same, filter-count, filter-within}
+use Rattle.laws.proofs.Lists.{list-get, list-as, flat-append, filter-same, filter-count, filter-within}
 use Rattle.laws.proofs.Sums.{sum-scaled}
 use Rattle.laws.proofs.Writing.{sets-taken}
 use Rattle.geometry.specs.declared.Point.{Point}
 use Rattle.mechanism.specs.Check.{FewParts}
-use Rattle.mechanism.specs.Description.{partAt, segsOf}
-use Rattle.bodies.specs.Pose.{worldOf}
+use Rattle.mechanism.specs.Description.{partAt, segsOf, startOfPart}
 use Rattle.mechanism.specs.declared.Outlines.{Outlines}
 use Rattle.mechanism.specs.declared.Parts.{Parts}
 use Rattle.mechanism.specs.declared.pair.Surface.{Surface}
 use Rattle.bodies.specs.declared.pose.Pose.{Pose}
 use Rattle.silhouette.specs.Silhouette.{inTheSection, silhouetteAt}
 use Rattle.material.specs.Material.{Edge, Material, pointOf, pointsOf, between, polyAt, materialOf}
-use Rattle.drawing.specs.Drawing.{isCut, isReadCut, placedOf, polygonOf, onSide, solidIn, cutIn, sideMaterial, chosenAs, solidsOf, cutsOf, chosenMaterial, whatIs, sideChosen, rowOf, same, rowsOf, endsFrom, startsOf, roomFor}
-use Rattle.drawing.specs.Samples.{endsOf, mouthsOf, samplesOf, partSamples, mouthRow, mouthIn}
+use Rattle.drawing.specs.Drawing.{isCut, isReadCut, polygonOf, onSide, solidIn, cutIn, sideMaterial, chosenAs, solidsOf, cutsOf, chosenMaterial, whatIs, sideChosen, rowOf, same, rowsOf, endsFrom, startsOf}
+use Rattle.drawing.specs.Samples.{endsOf, mouthsOf, mouthRow, mouthIn}
 use Rattle.drawing.specs.declared.Chosen.{Chosen}
-use Rattle.drawing.proofs.Segments.{silhouette-short, silhouette-94}
-use Rattle.drawing.proofs.Draws.{cond-below, polygons-short, chosen-segs, chosen-count, ends-length, flat-first, rows-append, has-room}
-use Rattle.drawing.proofs.Mouths.{samples-short}
+use Rattle.drawing.proofs.Segments.{silhouette-short}
+use Rattle.drawing.proofs.Draws.{cond-below, polygons-short, chosen-segs, chosen-count, ends-length, flat-first, rows-append}
 use Rattle.drawing.proofs.Sides.{whatOf}
 
 -- ---- rows are read back
@@ -152,34 +150,37 @@ side-chosen ps o q u cuts h =
     let b : filterIn (chosenAs d 2) (ps .count) 0 ≡ filterIn (cutIn ps u cuts) (ps .count) 0 = filter-same (chosenAs d 2) (cutIn ps u cuts) (ps .count) 0 (λ i l. cut-is ps u cuts i (omega arith)) in
     ap₂ (λ (x y : List ℕ). record { solids = map (polygonOf ps o q) x; cuts = map (polygonOf ps o q) y }) a b
 
--- ---- no array is too short for parts that pass no limit
-pub points-few : (ps : Parts) (o : Outlines) (q : Pose) (c : Chosen) → FewParts ps → (length (flat same (solidsOf ps o q c ++ cutsOf ps o q c)) ≤ 6144) × (length (solidsOf ps o q c ++ cutsOf ps o q c) ≤ 32)
-points-few ps o q c few =
+-- ---- how much room the parts need
+pub points-most : (ps : Parts) (o : Outlines) (q : Pose) (c : Chosen) → FewParts ps → (length (flat same (solidsOf ps o q c ++ cutsOf ps o q c)) ≤ 16 * startOfPart ps (ps .count)) × (length (solidsOf ps o q c ++ cutsOf ps o q c) ≤ 32)
+points-most ps o q c few =
     let a = polygons-short ps o q (chosenAs c 1) (ps .count) 0 in
     let b = polygons-short ps o q (chosenAs c 2) (ps .count) 0 in
     let s = chosen-segs ps c (ps .count) in
-    let t = few .total in
     let l = ap length (flat-append same (solidsOf ps o q c) (cutsOf ps o q c)) ∙ length-append (flat same (solidsOf ps o q c)) (flat same (cutsOf ps o q c)) in
     let n = few .count in
     let k = chosen-count c (ps .count) in
     let d = length-append (solidsOf ps o q c) (cutsOf ps o q c) in
     let e = length-map (filterIn (chosenAs c 1) (ps .count) 0) (polygonOf ps o q) ∙ filter-count (chosenAs c 1) (ps .count) 0 in
     let f = length-map (filterIn (chosenAs c 2) (ps .count) 0) (polygonOf ps o q) ∙ filter-count (chosenAs c 2) (ps .count) 0 in
-    (omega (arith, a, b, s, t, l), omega (arith, n, k, d, e, f))
+    (omega (arith, a, b, s, l), omega (arith, n, k, d, e, f))
 
--- what `draw` leaves in arrays that have room, read as the overlap readings read it
-pub drawn-material : (ps : Parts) (o : Outlines) (q : Pose) (c : Chosen) (l : List (List Float)) (s : List ℕ) → roomFor ps (length l) (length s) ≡ true
+pub points-few : (ps : Parts) (o : Outlines) (q : Pose) (c : Chosen) → FewParts ps → (length (flat same (solidsOf ps o q c ++ cutsOf ps o q c)) ≤ 6144) × (length (solidsOf ps o q c ++ cutsOf ps o q c) ≤ 32)
+points-few ps o q c few =
+    let m = points-most ps o q c few in
+    let a = m .0 in
+    let t = few .total in
+    (omega (arith, a, t), m .1)
+
+-- what `draw_from` leaves in arrays that have room, read as the overlap readings read it
+pub drawn-material : (ps : Parts) (o : Outlines) (q : Pose) (c : Chosen) (l : List (List Float)) (s : List ℕ) → FewParts ps → 16 * startOfPart ps (ps .count) ≤ length l → 33 ≤ length s
     → materialOf (take (length (flat same (solidsOf ps o q c ++ cutsOf ps o q c))) (sets l 0 (rowsOf (solidsOf ps o q c ++ cutsOf ps o q c))))
     (take (length (solidsOf ps o q c) + length (cutsOf ps o q c) + 1) (sets s 0 (startsOf (solidsOf ps o q c ++ cutsOf ps o q c))))
     (length (solidsOf ps o q c)) (length (solidsOf ps o q c) + length (cutsOf ps o q c)) ≡ chosenMaterial ps o q c
 unfolding chosenMaterial
-drawn-material ps o q c l s room =
+drawn-material ps o q c l s few a b =
     let solids = solidsOf ps o q c in
     let cuts = cutsOf ps o q c in
-    let h = has-room ps (length l) (length s) room in
-    let a = h .1 in
-    let b = h .2 in
-    let f = points-few ps o q c (h .0) in
+    let f = points-most ps o q c few in
     let d = f .0 in
     let e = f .1 in
     let m = length-map (flat same (solids ++ cuts)) rowOf in
@@ -189,22 +190,19 @@ drawn-material ps o q c l s room =
     (ap (λ (k : ℕ). take (k + 1) (sets s 0 (startsOf (solids ++ cuts)))) (sym n) ∙ taken-starts (solids ++ cuts) s (omega (arith, b, e)))
     ∙ laid solids cuts
 
-pub mouths-few : (ps : Parts) (o : Outlines) → FewParts ps → length (mouthsOf ps o) ≤ 768
+pub mouths-most : (ps : Parts) (o : Outlines) → length (mouthsOf ps o) ≤ 2 * startOfPart ps (ps .count)
 unfolding mouthsOf
-mouths-few ps o few =
+mouths-most ps o =
     let p : ℕ → Bool = λ i. isReadCut (partAt ps i) in
     let s = filter-within p (λ i. map endsOf (silhouetteAt ps o i)) (λ i. 2 * segsOf ps i) short (ps .count) 0 in
     let m = sum-scaled 2 (λ i. cond (p i) (2 * segsOf ps i) 0) (segsOf ps) (λ i. cond-below (2 * segsOf ps i) (p i)) (ps .count) 0 in
-    let t = few .total in
-    omega (arith, s, m, t)
+    omega (arith, s, m)
   where
     short : (i : ℕ) → length (map endsOf (silhouetteAt ps o i)) ≤ 2 * segsOf ps i
     short i = let l = length-map (silhouetteAt ps o i) endsOf in let h = silhouette-short ps o i in omega (arith, l, h)
 
-pub samples-few : (ps : Parts) (o : Outlines) (q : Pose) (mouths : List Edge) (i : ℕ) → length (partSamples ps o q mouths i) ≤ 1598
-unfolding partSamples
-samples-few ps o q mouths i =
-    let m = length-map (flat (samplesOf mouths) (silhouetteAt ps o i)) (worldOf (placedOf ps q i)) in
-    let f = flat-short (samplesOf mouths) 17 (samples-short mouths) (silhouetteAt ps o i) in
-    let s = silhouette-94 ps o i in
-    omega (arith, m, f, s)
+pub mouths-few : (ps : Parts) (o : Outlines) → FewParts ps → length (mouthsOf ps o) ≤ 768
+mouths-few ps o few =
+    let m = mouths-most ps o in
+    let t = few .total in
+    omega (arith, m, t)

@@ -1,5 +1,5 @@
 -- Polygons, mouths, samples and material ask of the outlines the silhouettes alone. Assumes nothing.
-use Prim.Native.Nat.{ℕ, _*_, _≤_}
+use Prim.Native.Nat.{ℕ, _≤_}
 use native.Mathlib.Omega.{arith}
 use mathlib.Core.Path.{_≡_, refl, sym, ap, ap₂, _∙_}
 use mathlib.Core.Bool.{Bool, true, cond}
@@ -21,7 +21,7 @@ use Rattle.bodies.specs.Pose.{worldOf}
 use Rattle.bodies.specs.declared.pose.Pose.{Pose}
 use Rattle.silhouette.specs.Silhouette.{silhouetteAt}
 use Rattle.silhouette.proofs.BySegment.{put-long, put-same}
-use Rattle.material.specs.Material.{Edge, Material}
+use Rattle.material.specs.Material.{Edge}
 use Rattle.drawing.specs.Drawing.{isReadCut, drawnPoints, placedOf, polygonOf, polygonsOf, solidIn, cutIn, sideMaterial, chosenAs, solidsOf, cutsOf, rowsOf, startsOf, roomFor, roomFrom, countsOf}
 use Rattle.drawing.specs.Samples.{endsOf, mouthsOf, samplesOf, partSamples}
 use Rattle.drawing.specs.declared.Chosen.{Chosen}

@@ -3,16 +3,19 @@ use Prim.Native.Nat.{ℕ, _+_, _-_, _<_, _≤_}
 use native.Mathlib.Nat.{add-zero, sub-zero}
 use mathlib.Core.Path.{_≡_, sym, ap, ap₂, subst, _∙_}
 use mathlib.Core.Bool.{Bool, true, false}
-use mathlib.Core.List.{List, map}
+use mathlib.Core.List.{List, _++_, map, map-append}
+use lib.ListN.{length, getD, drop, drop-of-length-le}
 use lib.Ieee.{Float}
-use Rattle.laws.specs.Lists.{listIn, foldl}
+use Rattle.laws.specs.Lists.{listIn, foldl, flat}
 use Rattle.laws.specs.Loops.{filterIn}
-use Rattle.laws.proofs.Lists.{foldl-map}
+use Rattle.laws.proofs.Lists.{foldl-append, foldl-map, flat-drop}
 use Rattle.laws.proofs.Loops.{filter-yes, filter-no, filter-done}
 use Rattle.ieee.specs.Consts.{zeroF}
 use Rattle.ieee.specs.Num.{maxOf}
 use Rattle.ieee.specs.Root.{rootOf}
 use Rattle.geometry.specs.declared.Point.{Point}
+use Rattle.geometry.specs.declared.Seg.{Seg}
+use Rattle.silhouette.specs.Silhouette.{noLine}
 use Rattle.bodies.specs.Pose.{placementAt, worldOf}
 use Rattle.bodies.specs.declared.pose.Placement.{Placement}
 use Rattle.bodies.specs.declared.pose.Pose.{Pose}
@@ -42,6 +45,23 @@ module _ (m : Material) (place : Point → Point) (f : ℕ → Point) (first cou
   pub squares-end : (d : Float) (i : ℕ) → count ≤ i → squaresFrom d i ≡ d
   unfolding foldl
   squares-end d i h = ap (foldl step d) (done-from f first count i h)
+
+-- ---- over the segments of a silhouette, the samples of each placed
+module _ (m : Material) (place : Point → Point) (f : Seg → List Point) (sil : List Seg) where
+  -- what is left to do from segment k on
+  abbrev pub segsFrom : Float → ℕ → Float
+  segsFrom d k = deepestSquare m d (map place (flat f (drop k sil)))
+
+  pub segs-more : (d : Float) {e : Float} {s : Seg} (k : ℕ) → k < length sil → s ≡ getD sil k noLine → e ≡ deepestSquare m d (map place (f s)) → segsFrom e (k + 1) ≡ segsFrom d k
+  segs-more d {s = s} k h is t =
+      let rest = flat f (drop (k + 1) sil) in
+      ap (λ (x : Float). deepestSquare m x (map place rest)) t
+      ∙ sym (foldl-append (λ x p. maxOf x (squareDepth m p)) d (map place (f s)) (map place rest))
+      ∙ ap (deepestSquare m d) (sym (map-append place (f s) rest) ∙ ap (map place) (sym (flat-drop f sil k noLine h ∙ ap (λ (g : Seg). f g ++ rest) (sym is))))
+
+  pub segs-end : (d : Float) (k : ℕ) → length sil ≤ k → segsFrom d k ≡ d
+  unfolding foldl flat
+  segs-end d k h = ap (λ (l : List Seg). deepestSquare m d (map place (flat f l))) (drop-of-length-le sil h)
 
 -- ---- over the parts that are sampled, those of n that are chosen
 module _ (m : Material) (samples : ℕ → List Point) (chosen : ℕ → Bool) (n : ℕ) where

@@ -1,63 +1,58 @@
--- What the lent arrays hold: the material of the chosen parts, the mouths of the cuts and a part's samples. Assumes nothing.
-use Prim.Native.Nat.{ℕ, _+_, _-_, _<_, _≤_}
+-- What the lent arrays hold: the material of the chosen parts, the mouths of the cuts and a segment's samples. Assumes nothing.
+use Prim.Native.Nat.{ℕ, _+_, _*_, _<_, _≤_}
 use native.Mathlib.Omega.{arith}
 use mathlib.Core.Path.{_≡_, sym, ap, ap₂, _∙_}
-use mathlib.Core.Bool.{Bool, true, not, _&&_, cond}
+use mathlib.Core.Bool.{Bool, true, not, cond}
 use mathlib.Core.List.{List, _++_, map}
-use lib.Dec.{leb}
 use lib.Ieee.{Float}
-use lib.ListN.{length, take, replicate, length-map}
+use lib.ListN.{length, take, replicate, length-map, length-append}
 use lib.Seq.{sets, length-sets, length-take-le}
-use borrow.Author.Tests.{lt-ltb}
+use borrow.Author.Tests.{le-leb}
 use Rattle.laws.specs.Lists.{flat}
-use Rattle.laws.proofs.Choice.{and-yes, cond-yes}
+use Rattle.laws.proofs.Choice.{and-yes, cond-yes, cond-no}
+use Rattle.laws.proofs.Sums.{sum-part}
 use Rattle.laws.proofs.Writing.{sets-taken}
-use Rattle.ieee.specs.Consts.{zeroF}
 use Rattle.geometry.specs.declared.Point.{Point}
-use Rattle.mechanism.specs.Check.{FewParts, partsOver}
+use Rattle.geometry.specs.declared.Seg.{Seg}
+use Rattle.mechanism.specs.Check.{FewParts}
+use Rattle.mechanism.specs.Description.{partAt, segsOf, startOfPart}
+use Rattle.mechanism.specs.Segments.{outlinesIn, segsCounted}
 use Rattle.mechanism.specs.declared.Outlines.{Outlines}
 use Rattle.mechanism.specs.declared.Parts.{Parts}
+use Rattle.bodies.specs.Pose.{worldOf}
+use Rattle.bodies.specs.declared.pose.Placement.{Placement}
 use Rattle.bodies.specs.declared.pose.Pose.{Pose}
+use Rattle.silhouette.specs.Silhouette.{silhouetteFrom}
 use Rattle.mechanism.proofs.Checks.{parts-few}
-use Rattle.material.specs.Material.{Edge, Material, pointsOf, materialOf, depthOf}
-use Rattle.drawing.specs.Drawing.{rowOf, same, rowsOf, startsOf, solidsOf, cutsOf, chosenMaterial, roomFor, countsOf}
-use Rattle.drawing.specs.Samples.{mouthsOf, mouthRow, mouthsIn, partSamples, mouthRoom, sampleRoom}
+use Rattle.material.specs.Material.{Edge, Material, pointsOf, materialOf, depthOf, deepestSquare}
+use Rattle.drawing.specs.Drawing.{placedOf, rowOf, same, rowsOf, startsOf, solidsOf, cutsOf, chosenMaterial, roomFrom, countsOf}
+use Rattle.drawing.specs.Samples.{mouthsOf, samplesOf, partSamples, mouthRow, mouthsIn, mouthRoom}
 use Rattle.drawing.specs.declared.Chosen.{Chosen}
 use Rattle.drawing.specs.declared.Polygons.{Polygons}
-use Rattle.drawing.proofs.Laid.{points-back, mouths-back, points-few, mouths-few, samples-few, drawn-material}
+use Rattle.drawing.proofs.Draws.{room-from-here}
+use Rattle.drawing.proofs.Segments.{from-part}
+use Rattle.drawing.proofs.Laid.{points-back, mouths-back, points-most, mouths-most, drawn-material}
 use Rattle.overlap.specs.Overlap.{sunkBy, sunkOf}
 
--- ---- the arrays as they are before anything is drawn
-abbrev pub rows : List (List Float)
-rows = replicate 6144 (replicate 2 zeroF)
-
-abbrev pub quads : List (List Float)
-quads = replicate 768 (replicate 4 zeroF)
-
+-- the starts as they are before anything is drawn
 abbrev pub zeros : List ℕ
 zeros = replicate 33 0
 
-module _ (ps : Parts) (few : FewParts ps) where
-  none-over : not (partsOver ps) ≡ true
-  none-over = ap not (parts-few ps few)
-
-  has-room : (n m : ℕ) → n ≡ 6144 → m ≡ 33 → roomFor ps n m ≡ true
-  has-room n m e f = and-yes _ none-over ∙ ap₂ (λ (x y : ℕ). leb 6144 x && leb 33 y) e f
-
-  has-mouth-room : (n : ℕ) → n ≡ 768 → mouthRoom ps n ≡ true
-  has-mouth-room n e = and-yes _ none-over ∙ ap (leb 768) e
-
-  has-sample-room : (i n : ℕ) → i < ps .count → n ≡ 1598 → sampleRoom ps i n ≡ true
-  has-sample-room i n h e = and-yes _ (and-yes _ none-over ∙ lt-ltb i (ps .count) h) ∙ ap (leb 1598) e
+-- parts that pass no limit have as many segments as are counted
+pub counted-few : (ps : Parts) → FewParts ps → segsCounted ps ≡ startOfPart ps (ps .count)
+counted-few ps few = cond-no _ _ (parts-few ps few)
 
 -- ---- the polygons of the chosen parts
-module _ (ps : Parts) (o : Outlines) (q : Pose) (c : Chosen) (few : FewParts ps) (l : List (List Float)) (s : List ℕ) {n : Polygons} {l′ : List (List Float)} {s′ : List ℕ}
-    (long : length l ≡ 6144) (wide : length s ≡ 33)
-    (drawn : (n ≡ countsOf (roomFor ps (length l) (length s)) (solidsOf ps o q c) (cutsOf ps o q c))
-    × (l′ ≡ cond (roomFor ps (length l) (length s)) (sets l 0 (rowsOf (solidsOf ps o q c ++ cutsOf ps o q c))) l)
-    × (s′ ≡ cond (roomFor ps (length l) (length s)) (sets s 0 (startsOf (solidsOf ps o q c ++ cutsOf ps o q c))) s)) where
-  room : roomFor ps (length l) (length s) ≡ true
-  room = has-room ps few (length l) (length s) long wide
+module _ (ps : Parts) (rows : List (List Float)) (q : Pose) (c : Chosen) (few : FewParts ps) (there : startOfPart ps (ps .count) ≤ length rows) (l : List (List Float)) (s : List ℕ)
+    (long : 16 * startOfPart ps (ps .count) ≤ length l) (wide : length s ≡ 33) {n : Polygons} {l′ : List (List Float)} {s′ : List ℕ}
+    (drawn : (n ≡ countsOf (roomFrom ps (length l) (length s) (length rows)) (solidsOf ps (outlinesIn rows) q c) (cutsOf ps (outlinesIn rows) q c))
+    × (l′ ≡ cond (roomFrom ps (length l) (length s) (length rows)) (sets l 0 (rowsOf (solidsOf ps (outlinesIn rows) q c ++ cutsOf ps (outlinesIn rows) q c))) l)
+    × (s′ ≡ cond (roomFrom ps (length l) (length s) (length rows)) (sets s 0 (startsOf (solidsOf ps (outlinesIn rows) q c ++ cutsOf ps (outlinesIn rows) q c))) s)) where
+  abbrev o : Outlines
+  o = outlinesIn rows
+
+  room : roomFrom ps (length l) (length s) (length rows) ≡ true
+  room = room-from-here ps (length l) (length s) (length rows) few long (omega (arith, wide)) there
 
   counts : n ≡ countsOf true (solidsOf ps o q c) (cutsOf ps o q c)
   counts = drawn .0 ∙ ap (λ (b : Bool). countsOf b (solidsOf ps o q c) (cutsOf ps o q c)) room
@@ -68,18 +63,21 @@ module _ (ps : Parts) (o : Outlines) (q : Pose) (c : Chosen) (few : FewParts ps)
   starts-are : s′ ≡ sets s 0 (startsOf (solidsOf ps o q c ++ cutsOf ps o q c))
   starts-are = drawn .2 ∙ cond-yes _ _ room
 
+  pub points-same : length l′ ≡ length l
+  points-same = ap length points-are ∙ length-sets l 0 (rowsOf (solidsOf ps o q c ++ cutsOf ps o q c))
+
   pub points-within : n .points ≤ length l′
   points-within =
       let e : n .points ≡ length (flat same (solidsOf ps o q c ++ cutsOf ps o q c)) = ap (λ (x : Polygons). x .points) counts in
-      let f = points-few ps o q c few .0 in
-      let k = ap length points-are ∙ length-sets l 0 (rowsOf (solidsOf ps o q c ++ cutsOf ps o q c)) in
+      let f = points-most ps o q c few .0 in
+      let k = points-same in
       omega (arith, e, f, k, long)
 
   all-few : n .all ≤ 32
   all-few =
       let e : n .all ≡ length (solidsOf ps o q c) + length (cutsOf ps o q c) = ap (λ (x : Polygons). x .all) counts in
-      let f = points-few ps o q c few .1 in
-      let a = lib.ListN.length-append (solidsOf ps o q c) (cutsOf ps o q c) in
+      let f = points-most ps o q c few .1 in
+      let a = length-append (solidsOf ps o q c) (cutsOf ps o q c) in
       omega (arith, e, f, a)
 
   pub starts-within : n .all + 1 ≤ length s′
@@ -104,7 +102,7 @@ module _ (ps : Parts) (o : Outlines) (q : Pose) (c : Chosen) (few : FewParts ps)
       (take (length (flat same (solidsOf ps o q c ++ cutsOf ps o q c))) x)
       (take (length (solidsOf ps o q c) + length (cutsOf ps o q c) + 1) y)
       (length (solidsOf ps o q c)) (length (solidsOf ps o q c) + length (cutsOf ps o q c))) points-are starts-are
-      ∙ drawn-material ps o q c l s room
+      ∙ drawn-material ps o q c l s few long (omega (arith, wide))
 
   -- what is read of the lent polygons is read of the chosen parts
   pub depth-is : (p : Point) {d : Float} → d ≡ depthOf (materialOf (take (n .points) l′) (take (n .all + 1) s′) (n .solids) (n .all)) p → d ≡ depthOf (chosenMaterial ps o q c) p
@@ -114,61 +112,65 @@ module _ (ps : Parts) (o : Outlines) (q : Pose) (c : Chosen) (few : FewParts ps)
   sunk-is owner mouths e = e ∙ ap (sunkBy ps o q owner mouths) material-is
 
 -- ---- the mouths
-module _ (ps : Parts) (o : Outlines) (few : FewParts ps) (l : List (List Float)) {n : ℕ} {l′ : List (List Float)} (long : length l ≡ 768)
-    (drawn : (n ≡ cond (mouthRoom ps (length l)) (length (mouthsOf ps o)) 0) × (l′ ≡ cond (mouthRoom ps (length l)) (sets l 0 (map mouthRow (mouthsOf ps o))) l)) where
-  mouth-count : n ≡ length (mouthsOf ps o)
-  mouth-count = drawn .0 ∙ cond-yes _ _ (has-mouth-room ps few (length l) long)
+module _ (ps : Parts) (rows : List (List Float)) (few : FewParts ps) (there : startOfPart ps (ps .count) ≤ length rows) (l : List (List Float)) (long : 2 * startOfPart ps (ps .count) ≤ length l) {n : ℕ} {l′ : List (List Float)}
+    (drawn : (n ≡ cond (mouthRoom ps (length l) (length rows)) (length (mouthsOf ps (outlinesIn rows))) 0) × (l′ ≡ cond (mouthRoom ps (length l) (length rows)) (sets l 0 (map mouthRow (mouthsOf ps (outlinesIn rows)))) l)) where
+  abbrev mouths : List Edge
+  mouths = mouthsOf ps (outlinesIn rows)
 
-  mouths-are : l′ ≡ sets l 0 (map mouthRow (mouthsOf ps o))
-  mouths-are = drawn .1 ∙ cond-yes _ _ (has-mouth-room ps few (length l) long)
+  mouth-room : mouthRoom ps (length l) (length rows) ≡ true
+  mouth-room =
+      let over = parts-few ps few in
+      let k = counted-few ps few in
+      and-yes _ (ap not over) ∙ and-yes _ (le-leb (2 * segsCounted ps) (length l) (omega (arith, k, long))) ∙ le-leb (segsCounted ps) (length rows) (omega (arith, k, there))
+
+  mouth-count : n ≡ length mouths
+  mouth-count = drawn .0 ∙ cond-yes _ _ mouth-room
+
+  mouths-are : l′ ≡ sets l 0 (map mouthRow mouths)
+  mouths-are = drawn .1 ∙ cond-yes _ _ mouth-room
+
+  pub mouths-long : length l′ ≡ length l
+  mouths-long = ap length mouths-are ∙ length-sets l 0 (map mouthRow mouths)
 
   pub mouths-within : n ≤ length l′
   mouths-within =
       let e = mouth-count in
-      let f = mouths-few ps o few in
-      let k = ap length mouths-are ∙ length-sets l 0 (map mouthRow (mouthsOf ps o)) in
+      let f = mouths-most ps (outlinesIn rows) in
+      let k = mouths-long in
       omega (arith, e, f, k, long)
 
   pub mouths-counted : n ≡ length (take n l′)
   mouths-counted = sym (length-take-le n l′ mouths-within)
 
-  mouths-read : mouthsIn (take n l′) ≡ mouthsOf ps o
+  mouths-read : mouthsIn (take n l′) ≡ mouths
   mouths-read =
-      let f = mouths-few ps o few in
-      let m = length-map (mouthsOf ps o) mouthRow in
+      let f = mouths-most ps (outlinesIn rows) in
+      let m = length-map mouths mouthRow in
       ap (λ (x : List (List Float)). mouthsIn (take n x)) mouths-are
-      ∙ ap mouthsIn (sets-taken (map mouthRow (mouthsOf ps o)) l n (m ∙ sym mouth-count) (omega (arith, f, m, long)))
-      ∙ mouths-back (mouthsOf ps o)
+      ∙ ap mouthsIn (sets-taken (map mouthRow mouths) l n (m ∙ sym mouth-count) (omega (arith, f, m, long)))
+      ∙ mouths-back mouths
 
-  pub sunk-with : (q : Pose) (owner : ℕ → Bool) (m : Material) {d : Float} → d ≡ sunkBy ps o q owner (mouthsIn (take n l′)) m → d ≡ sunkOf ps o q owner m
-  sunk-with q owner m e = e ∙ ap (λ (k : List Edge). sunkBy ps o q owner k m) mouths-read
+  pub sunk-with : (q : Pose) (owner : ℕ → Bool) (m : Material) {d : Float} → d ≡ sunkBy ps (outlinesIn rows) q owner (mouthsIn (take n l′)) m → d ≡ sunkOf ps (outlinesIn rows) q owner m
+  sunk-with q owner m e = e ∙ ap (λ (k : List Edge). sunkBy ps (outlinesIn rows) q owner k m) mouths-read
 
--- ---- a part's samples
-module _ (ps : Parts) (o : Outlines) (q : Pose) (mouths : List Edge) (few : FewParts ps) (i : ℕ) (h : i < ps .count) (l : List (List Float)) {n : ℕ} {l′ : List (List Float)} (long : length l ≡ 1598)
-    (drawn : (n ≡ cond (sampleRoom ps i (length l)) (length (partSamples ps o q mouths i)) 0) × (l′ ≡ cond (sampleRoom ps i (length l)) (sets l 0 (map rowOf (partSamples ps o q mouths i))) l)) where
-  sample-count : n ≡ length (partSamples ps o q mouths i)
-  sample-count = drawn .0 ∙ cond-yes _ _ (has-sample-room ps few i (length l) h long)
+-- ---- part i as a loop over rows reads it: its segments start in row `first`
+module _ (ps : Parts) (rows : List (List Float)) (few : FewParts ps) (there : startOfPart ps (ps .count) ≤ length rows) {first : ℕ} (i : ℕ) (h : i < ps .count) (e : first ≡ startOfPart ps i) where
+  pub part-asks : (segsOf ps i ≤ 48) × (first + segsOf ps i ≤ length rows)
+  part-asks =
+      let s = sum-part (segsOf ps) i (ps .count) h in
+      (few .each i h, omega (arith, s, e, there))
 
-  samples-are : l′ ≡ sets l 0 (map rowOf (partSamples ps o q mouths i))
-  samples-are = drawn .1 ∙ cond-yes _ _ (has-sample-room ps few i (length l) h long)
+  pub part-taken : (q : Pose) (mouths : List Edge) (m : Material) (d : Float) {x : Float} {place : Placement} → place ≡ placedOf ps q i
+      → x ≡ deepestSquare m d (map (worldOf place) (flat (samplesOf mouths) (silhouetteFrom (outlinesIn rows) first (partAt ps i)))) → x ≡ deepestSquare m d (partSamples ps (outlinesIn rows) q mouths i)
+  unfolding partSamples
+  part-taken q mouths m d p t =
+      t ∙ ap₂ (λ (k : Placement) (l : List Seg). deepestSquare m d (map (worldOf k) (flat (samplesOf mouths) l))) p (from-part ps (outlinesIn rows) i few h e)
 
-  pub samples-long : length l′ ≡ 1598
-  samples-long = ap length samples-are ∙ length-sets l 0 (map rowOf (partSamples ps o q mouths i)) ∙ long
+-- ---- points that were written to the front of an array, and are lent from there
+pub points-lent : (xs : List Point) (l : List (List Float)) {n : ℕ} {l′ : List (List Float)} → n ≡ length xs → l′ ≡ sets l 0 (map rowOf xs) → length xs ≤ length l → pointsOf (take n l′) ≡ xs
+points-lent xs l {n} e d h =
+    let m = length-map xs rowOf in
+    ap (λ (x : List (List Float)). pointsOf (take n x)) d ∙ ap pointsOf (sets-taken (map rowOf xs) l n (m ∙ sym e) (omega (arith, m, h))) ∙ points-back xs
 
-  pub samples-within : n ≤ length l′
-  samples-within =
-      let e = sample-count in
-      let f = samples-few ps o q mouths i in
-      let k = samples-long in
-      omega (arith, e, f, k)
-
-  pub samples-counted : n ≡ length (take n l′)
-  samples-counted = sym (length-take-le n l′ samples-within)
-
-  pub samples-read : pointsOf (take n l′) ≡ partSamples ps o q mouths i
-  samples-read =
-      let f = samples-few ps o q mouths i in
-      let m = length-map (partSamples ps o q mouths i) rowOf in
-      ap (λ (x : List (List Float)). pointsOf (take n x)) samples-are
-      ∙ ap pointsOf (sets-taken (map rowOf (partSamples ps o q mouths i)) l n (m ∙ sym sample-count) (omega (arith, f, m, long)))
-      ∙ points-back (partSamples ps o q mouths i)
+pub written-long : (l xs : List (List Float)) {l′ : List (List Float)} {n : ℕ} → l′ ≡ sets l 0 xs → length l ≡ n → length l′ ≡ n
+written-long l xs e h = ap length e ∙ length-sets l 0 xs ∙ h

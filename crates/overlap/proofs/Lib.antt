@@ -1,6 +1,7 @@
 pub mod Once
 pub mod Flags
 pub mod Lent
+pub mod Same
 pub mod Listed
 pub mod Pairwise
 pub mod Answers

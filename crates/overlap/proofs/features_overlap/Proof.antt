@@ -1,6 +1,7 @@
 use mathlib.Core.Path.{ap, ap₂, _∙_}
 use Rattle.ieee.specs.Consts.{zeroF}
 use Rattle.ieee.specs.Num.{maxOf}
+use Rattle.mechanism.specs.Segments.{outlinesIn}
 use Rattle.overlap.specs.Overlap.{ownerIn}
 use Rattle.overlap.proofs.Pairwise.{sunk-side}
 use borrow.Author.Needs.{needs}
@@ -28,14 +29,20 @@ max-requires c κs = search needs
 max-requires-2 : tie.Need-max-requires-2
 max-requires-2 c κs = search needs
 
+same-length : tie.Need-same-length
+same-length c = search needs
+
+same-length-2 : tie.Need-same-length-2
+same-length-2 c = search needs
+
 returns : tie.Need-returns
 returns c =
-    let s = c .before .before .before .before .before .before .before in
-    let both = c .before .before .sunk-both .ensures in
+    let s = c .before .before .before .before .before .before .before .before .before .before .before in
+    let both = c .before .before .before .before .sunk-both .ensures in
     c .max2 .ensures
     ∙ ap₂ maxOf
-    (c .before .max .ensures ∙ ap (maxOf zeroF) (sunk-side (s .args .ps) (s .args .o) (s .args .q) (s .pre) (ownerIn (s .args .ps) (s .args .a)) (s .args .b) (both .0) (c .before .before .before .before .before .before .side-owners .ensures) (c .before .before .before .side-chosen2 .ensures)))
-    (sunk-side (s .args .ps) (s .args .o) (s .args .q) (s .pre) (ownerIn (s .args .ps) (s .args .b)) (s .args .a) (both .1) (c .before .before .before .before .side-owners2 .ensures) (c .before .before .before .before .before .side-chosen .ensures))
+    (c .before .max .ensures ∙ ap (maxOf zeroF) (sunk-side (s .args .ps) (outlinesIn (s .args .segs .now)) (s .args .q) (s .pre .0) (ownerIn (s .args .ps) (s .args .a)) (s .args .b) (both .0) (c .before .before .before .before .before .before .before .before .side-owners .ensures) (c .before .before .before .before .before .side-chosen2 .ensures)))
+    (sunk-side (s .args .ps) (outlinesIn (s .args .segs .now)) (s .args .q) (s .pre .0) (ownerIn (s .args .ps) (s .args .b)) (s .args .a) (both .1) (c .before .before .before .before .before .before .side-owners2 .ensures) (c .before .before .before .before .before .before .before .side-chosen .ensures))
 
 pub features-overlap-spec : {M : Type 1} → statement M
 features-overlap-spec =
@@ -48,4 +55,6 @@ features-overlap-spec =
     sunk-both-requires
     max-requires
     max-requires-2
+    same-length
+    same-length-2
     returns)

@@ -1,33 +1,65 @@
-use Rattle.overlap.proofs.Pairwise.{sunk-parts, parts-both}
-use borrow.Author.Needs.{needs}
 use Rattle.overlap.proofs.overlap_of_parts.Statement.{statement}
 use Rattle.overlap.proofs.overlap_of_parts.Tie as tie
+use Rattle.overlap.proofs.overlap_of_parts.Reads as reads
+use Rattle.overlap.proofs.overlap_of_parts.Lts as lts
+use Rattle.ieee.proofs.num.max.Reads as max-reads
+use Rattle.mechanism.proofs.check.segs_counted.Reads as segs-counted-reads
+use Rattle.mechanism.proofs.segments.put_segs.Reads as put-segs-reads
+use Rattle.overlap.proofs.list_owners.Reads as list-owners-reads
+use Rattle.overlap.proofs.owners_chosen.Reads as owners-chosen-reads
+use Rattle.overlap.proofs.sunk_both.Reads as sunk-both-reads
 
+-- src/lib.rt:530:9
 list-owners-requires : tie.Need-list-owners-requires
-list-owners-requires c κs = search needs
+list-owners-requires c κs = ?
 
+-- src/lib.rt:531:9
 list-owners-requires-2 : tie.Need-list-owners-requires-2
-list-owners-requires-2 c κs = search needs
+list-owners-requires-2 c κs = ?
 
+-- src/lib.rt:535:14
+slice-aggregate-put-segs : tie.Need-slice-aggregate-put-segs
+slice-aggregate-put-segs c = ?
+
+-- src/lib.rt:535:28
+segs-counted-requires : tie.Need-segs-counted-requires
+segs-counted-requires c κs = ?
+
+-- src/lib.rt:535:5
+put-segs-requires : tie.Need-put-segs-requires
+put-segs-requires c κs = ?
+
+-- src/lib.rt:537:9
+slice-aggregate-sunk-both : tie.Need-slice-aggregate-sunk-both
+slice-aggregate-sunk-both c = ?
+
+-- src/lib.rt:538:9
+slice-aggregate-sunk-both-2 : tie.Need-slice-aggregate-sunk-both-2
+slice-aggregate-sunk-both-2 c = ?
+
+-- src/lib.rt:540:9
+slice-aggregate-sunk-both-3 : tie.Need-slice-aggregate-sunk-both-3
+slice-aggregate-sunk-both-3 c = ?
+
+-- src/lib.rt:543:9
 owners-chosen-requires : tie.Need-owners-chosen-requires
-owners-chosen-requires c κs = search needs
+owners-chosen-requires c κs = ?
 
+-- src/lib.rt:545:9
 owners-chosen-requires-2 : tie.Need-owners-chosen-requires-2
-owners-chosen-requires-2 c κs = search needs
+owners-chosen-requires-2 c κs = ?
 
+-- src/lib.rt:536:9
 sunk-both-requires : tie.Need-sunk-both-requires
-sunk-both-requires c κs = search needs
+sunk-both-requires c κs = ?
 
+-- src/lib.rt:547:5
 max-requires : tie.Need-max-requires
-max-requires c κs = search needs
+max-requires c κs = ?
 
+-- src/lib.rt:526:1
 returns : tie.Need-returns
-returns c =
-    let s = c .before .before .before .before .before .before .before .before in
-    let two = c .before .sunk-both .ensures in
-    parts-both (s .args .ps) (s .args .o) (s .args .q) (s .args .a .now) (s .args .b .now) (c .max .ensures)
-    (sunk-parts (s .args .ps) (s .args .o) (s .args .q) (s .pre .0) (s .args .a .now) (s .args .b .now) (s .pre .1) (s .pre .2) (two .0) (c .before .before .before .before .before .list-owners .ensures) (c .before .before .owners-chosen2 .ensures) (c .before .before .before .before .list-owners2 .ensures))
-    (sunk-parts (s .args .ps) (s .args .o) (s .args .q) (s .pre .0) (s .args .b .now) (s .args .a .now) (s .pre .2) (s .pre .1) (two .1) (c .before .before .before .before .list-owners2 .ensures) (c .before .before .before .owners-chosen .ensures) (c .before .before .before .before .before .list-owners .ensures))
+returns c = ?
 
 pub overlap-of-parts-spec : {M : Type 1} → statement M
 overlap-of-parts-spec =
@@ -35,6 +67,12 @@ overlap-of-parts-spec =
     (tie.spec
     list-owners-requires
     list-owners-requires-2
+    slice-aggregate-put-segs
+    segs-counted-requires
+    put-segs-requires
+    slice-aggregate-sunk-both
+    slice-aggregate-sunk-both-2
+    slice-aggregate-sunk-both-3
     owners-chosen-requires
     owners-chosen-requires-2
     sunk-both-requires
