@@ -1,5 +1,5 @@
 -- Overlaps ask of the outlines the silhouettes alone, and rows into which the segments were put give the same. Assumes nothing.
-use Prim.Native.Nat.{ℕ, _≤_}
+use Prim.Native.Nat.{ℕ, _*_, _≤_}
 use native.Mathlib.Omega.{arith}
 use mathlib.Core.Path.{_≡_, refl, sym, ap, ap₂, subst, _∙_}
 use mathlib.Core.Bool.{Bool, true, false, cond}
@@ -7,7 +7,7 @@ use mathlib.Core.List.{List, [], _∷_, map}
 use lib.Dec.{ltb}
 use lib.Ieee.{Float}
 use lib.ListN.{length}
-use lib.Seq.{sets}
+use lib.Seq.{sets, length-sets}
 use Rattle.laws.specs.Lists.{foldl}
 use Rattle.laws.proofs.Choice.{cond-yes}
 use Rattle.ieee.specs.Consts.{zeroF}
@@ -74,6 +74,18 @@ module _ (ps : Parts) (o o′ : Outlines) (same : (i : ℕ) → silhouetteAt ps 
   parts-same a b = ap₂ maxOf (sunk-same (isIn (ownersOf ps a)) (list-same (ownersOf ps b))) (sunk-same (isIn (ownersOf ps b)) (list-same (ownersOf ps a)))
 
 -- ---- rows into which the counted segments were put
+put-length : (t : Bool) (l xs : List (List Float)) → length (cond t (sets l 0 xs) l) ≡ length l
+put-length true l xs = length-sets l 0 xs
+put-length false l xs = refl
+
+-- arrays for k segments have room for n of them
+pub put-asks : (ps : Parts) (o : Outlines) (l : List (List Float)) (k : ℕ) {n : ℕ} {rows : List (List Float)} → length l ≡ k → (n ≡ segsCounted ps) × (n ≤ 384) → n ≤ k
+    → rows ≡ cond (segsFit n (length l)) (sets l 0 (segRows o n)) l → (segsCounted ps ≤ length rows) × (16 * segsCounted ps ≤ 16 * k) × (2 * segsCounted ps ≤ 2 * k)
+put-asks ps o l k {n} room counted h put =
+    let e = counted .0 in
+    let m = ap length put ∙ put-length (segsFit n (length l)) l (segRows o n) in
+    (omega (arith, e, h, m, room), omega (arith, e, h), omega (arith, e, h))
+
 module _ (ps : Parts) (o : Outlines) (l : List (List Float)) {n : ℕ} {rows : List (List Float)} (long : length (o .seg) ≡ 384) (counted : (n ≡ segsCounted ps) × (n ≤ 384)) (room : n ≤ length l)
     (put : rows ≡ cond (segsFit n (length l)) (sets l 0 (segRows o n)) l) (q : Pose) where
   pub overlap-put : (p : ContactPair) {d : Float} → d ≡ pairOverlapAt ps (outlinesIn rows) q p → d ≡ pairOverlapAt ps o q p

@@ -1,56 +1,48 @@
+use mathlib.Core.Path.{ap, _∙_}
+use mathlib.Core.Bool.{true}
+use lib.Dec.{ltb}
+use Rattle.mechanism.specs.Check.{thenCalled}
+use Rattle.mechanism.specs.Segments.{described}
+use Rattle.bodies.specs.declared.Checked.{Checked}
+use Rattle.overlap.proofs.Answers.{pair-refused, pair-there, pair-answered}
+use borrow.Author.Needs.{needs}
 use Rattle.overlap.proofs.pair_answer.Statement.{statement}
 use Rattle.overlap.proofs.pair_answer.Tie as tie
-use Rattle.overlap.proofs.pair_answer.Reads as reads
-use Rattle.overlap.proofs.pair_answer.Lts as lts
-use Rattle.bodies.proofs.pose.Pose.fits.Reads as fits-reads
-use Rattle.mechanism.proofs.check.check_in.Reads as check-in-reads
-use Rattle.mechanism.proofs.check.then_called.Reads as then-called-reads
-use Rattle.overlap.proofs.overlap_over.Reads as overlap-over-reads
-use Rattle.overlap.proofs.pair_at.Reads as pair-at-reads
 
--- src/lib.rt:367:9
 check-in-requires : tie.Need-check-in-requires
-check-in-requires c κs = ?
+check-in-requires c κs = search needs
 
--- src/lib.rt:368:9
 fits-requires : tie.Need-fits-requires
-fits-requires c κs = ?
+fits-requires c κs = search needs
 
--- src/lib.rt:366:9
 then-called-requires : tie.Need-then-called-requires
-then-called-requires c κs = ?
+then-called-requires c κs = search needs
 
--- src/lib.rt:373:26
 enum-known-c : tie.Need-enum-known-c
-enum-known-c c = ?
+enum-known-c c = search needs
 
--- src/lib.rt:375:17
 enum-told : tie.Need-enum-told
-enum-told c = ?
+enum-told c = search needs
 
--- src/lib.rt:375:17
 pair-at-requires : tie.Need-pair-at-requires
-pair-at-requires c κs = ?
+pair-at-requires c κs = let s = c .before .before .before .before .before .before .args in pair-there (described (s .b) (s .ps) (s .segs .now) (s .pairs)) (s .q) (c .before .before .before .before .fits2 .ensures) (s .pair) (c .before .before .then-called .ensures ∙ ap (λ (k : Checked). thenCalled k (c .before .before .before .before .fits2 .result) (ltb (s .pair) (s .pairs .count)) true) (c .before .before .before .before .before .check-in .ensures)) (c .enum-told .given .1)
 
--- src/lib.rt:376:34
 overlap-over-requires : tie.Need-overlap-over-requires
-overlap-over-requires c κs = ?
+overlap-over-requires c κs = search needs
 
--- src/lib.rt:353:1
 returns : tie.Need-returns
-returns c = ?
+returns c = let s = c .before .before .before .before .before .before .before .args in pair-refused (described (s .b) (s .ps) (s .segs .now) (s .pairs)) (s .q) (c .before .before .before .before .before .fits2 .ensures) (s .pair) (c .before .before .before .then-called .ensures ∙ ap (λ (k : Checked). thenCalled k (c .before .before .before .before .before .fits2 .result) (ltb (s .pair) (s .pairs .count)) true) (c .before .before .before .before .before .before .check-in .ensures)) (c .before .c .given .1)
 
--- src/lib.rt:353:1
 same-length : tie.Need-same-length
-same-length c = ?
+same-length c = search needs
 
--- src/lib.rt:353:1
 same-length-2 : tie.Need-same-length-2
-same-length-2 c = ?
+same-length-2 c = search needs
 
--- src/lib.rt:353:1
 returns-2 : tie.Need-returns-2
-returns-2 c = ?
+returns-2 c =
+    let s = c .before .before .before .before .before .before .before .before .before .before .before .before .args in
+    pair-answered (described (s .b) (s .ps) (s .segs .now) (s .pairs)) (s .q) (c .before .before .before .before .before .before .before .before .before .before .fits2 .ensures) (s .pair) (c .before .before .before .before .before .before .before .before .then-called .ensures ∙ ap (λ (k : Checked). thenCalled k (c .before .before .before .before .before .before .before .before .before .before .fits2 .result) (ltb (s .pair) (s .pairs .count)) true) (c .before .before .before .before .before .before .before .before .before .before .before .check-in .ensures)) (c .before .before .before .before .before .before .enum-told .given .1) (c .before .before .overlap-over .ensures) (c .before .before .before .before .before .pair-at .ensures)
 
 pub pair-answer-spec : {M : Type 1} → statement M
 pair-answer-spec =

@@ -1,42 +1,41 @@
+use mathlib.Core.Path.{refl}
+use lib.ListN.{replicate}
+use Rattle.ieee.specs.Consts.{zeroF}
+use Rattle.mechanism.proofs.Known.{outlines-long}
+use Rattle.overlap.proofs.Same.{put-asks, overlap-put}
+use borrow.Author.Needs.{needs}
 use Rattle.overlap.proofs.pair_overlap_at.Statement.{statement}
 use Rattle.overlap.proofs.pair_overlap_at.Tie as tie
-use Rattle.overlap.proofs.pair_overlap_at.Reads as reads
-use Rattle.overlap.proofs.pair_overlap_at.Lts as lts
-use Rattle.mechanism.proofs.check.segs_counted.Reads as segs-counted-reads
-use Rattle.mechanism.proofs.segments.put_segs.Reads as put-segs-reads
-use Rattle.overlap.proofs.overlap_over.Reads as overlap-over-reads
 
--- src/lib.rt:341:14
 slice-aggregate-put-segs : tie.Need-slice-aggregate-put-segs
-slice-aggregate-put-segs c = ?
+slice-aggregate-put-segs c = search needs
 
--- src/lib.rt:341:28
 segs-counted-requires : tie.Need-segs-counted-requires
-segs-counted-requires c κs = ?
+segs-counted-requires c κs = search needs
 
--- src/lib.rt:341:5
 put-segs-requires : tie.Need-put-segs-requires
-put-segs-requires c κs = ?
+put-segs-requires c κs = search needs
 
--- src/lib.rt:342:18
 slice-aggregate-overlap-over : tie.Need-slice-aggregate-overlap-over
-slice-aggregate-overlap-over c = ?
+slice-aggregate-overlap-over c = search needs
 
--- src/lib.rt:342:31
 slice-aggregate-overlap-over-2 : tie.Need-slice-aggregate-overlap-over-2
-slice-aggregate-overlap-over-2 c = ?
+slice-aggregate-overlap-over-2 c = search needs
 
--- src/lib.rt:342:48
 slice-aggregate-overlap-over-3 : tie.Need-slice-aggregate-overlap-over-3
-slice-aggregate-overlap-over-3 c = ?
+slice-aggregate-overlap-over-3 c = search needs
 
--- src/lib.rt:342:5
 overlap-over-requires : tie.Need-overlap-over-requires
-overlap-over-requires c κs = ?
+overlap-over-requires c κs =
+    let s = c .before .before .before .before .before .before .before in
+    let k = c .before .before .before .before .before .segs-counted .ensures in
+    put-asks (s .args .ps) (s .args .o) (replicate 384 (replicate 8 zeroF)) 384 refl k (k .1) (c .before .before .before .before .put-segs .ensures)
 
--- src/lib.rt:335:1
 returns : tie.Need-returns
-returns c = ?
+returns c =
+    let s = c .before .before .before .before .before .before .before .before .before .before in
+    let k = c .before .before .before .before .before .before .before .before .segs-counted .ensures in
+    overlap-put (s .args .ps) (s .args .o) (replicate 384 (replicate 8 zeroF)) (outlines-long (s .args .o) _ (s .good .1 .0)) k (k .1) (c .before .before .before .before .before .before .before .put-segs .ensures) (s .args .q) (s .args .p) (c .before .before .overlap-over .ensures)
 
 pub pair-overlap-at-spec : {M : Type 1} → statement M
 pair-overlap-at-spec =
