@@ -255,14 +255,7 @@ fn features_overlap(
 }
 
 // The depth of a point inside the material of the chosen parts, drawn into lent points.
-fn depth_in(
-    points: &mut [Spot],
-    ps: Parts,
-    segs: &[SegRow],
-    q: Pose,
-    c: Chosen,
-    p: Point,
-) -> f64
+fn depth_in(points: &mut [Spot], ps: Parts, segs: &[SegRow], q: Pose, c: Chosen, p: Point) -> f64
     requires { ⌜ FewParts ps × (startOfPart ps (ps .count) ≤ length (now segs)) × (16 * startOfPart ps (ps .count) ≤ length (now points)) ⌝ }
     ensures { λ r. ⌜ r ≡ depthOf (chosenMaterial ps (outlinesIn (now (segs .entry))) q c) p ⌝ }
 {
