@@ -1,70 +1,78 @@
-use native.Mathlib.Omega.{arith}
-use Prim.Native.Nat.{_-_}
-use Rattle.tables.proofs.Puts.{Puts, puts-start, drawn-long, sampled-long, parts-long, puts-more, puts-end}
 use Rattle.tables.proofs.put_parts.Statement.{statement}
 use Rattle.tables.proofs.put_parts.Tie as tie
+use Rattle.tables.proofs.put_parts.Reads as reads
+use Rattle.tables.proofs.put_parts.Lts as lts
+use Rattle.tables.proofs.put_part_points.Reads as put-part-points-reads
 
 abbrev Inv-loop : tie.InvT-loop
-Inv-loop drawn₀ sampled₀ parts₀ o mouths ps n at₀ i₀ drawn sampled parts at i = Puts ps o drawn₀ sampled₀ parts₀ drawn sampled parts at i
+Inv-loop drawn₀ sampled₀ parts₀ segs mouths ps n first₀ at₀ i₀ drawn sampled parts first at i = ?
 
 abbrev μ-loop : tie.MeasureT-loop
-μ-loop drawn₀ sampled₀ parts₀ o mouths ps n at₀ i₀ drawn sampled parts at i = ps .count - i
+μ-loop drawn₀ sampled₀ parts₀ segs mouths ps n first₀ at₀ i₀ drawn sampled parts first at i = ?
 
+-- src/lib.rt:237:5
 loop-holds : tie.Need-loop-holds Inv-loop μ-loop
-loop-holds c = puts-start _ _ _ _ _
+loop-holds c = ?
 
+-- src/lib.rt:238:17
 mul-p : tie.Need-mul-p Inv-loop μ-loop
-mul-p c = let h = c .before .before .pre .0 .count in omega arith
+mul-p c = ?
 
+-- src/lib.rt:238:17
 element-copy-out-p : tie.Need-element-copy-out-p Inv-loop μ-loop
-element-copy-out-p c = let h = c .before .before .pre .0 .count in omega arith
+element-copy-out-p c = ?
 
+-- src/lib.rt:239:13
 put-part-points-requires : tie.Need-put-part-points-requires Inv-loop μ-loop
-put-part-points-requires c κs =
-    let s = c .before .before .before .before .before in
-    let l = c .before .before .before .before .loop in
-    let d = drawn-long _ _ _ _ _ (l .inv) in
-    let e = sampled-long _ _ _ _ _ (l .inv) in
-    (s .pre .0, omega arith, s .pre .1, l .inv .at-drawn, l .inv .at-sampled, omega arith, omega arith)
+put-part-points-requires c κs = ?
 
-sub-t14 : tie.Need-sub-t14 Inv-loop μ-loop
-sub-t14 c = let e = c .before .before .before .before .put-part-points .ensures .0 in omega arith
+-- src/lib.rt:243:13
+sub-t15 : tie.Need-sub-t15 Inv-loop μ-loop
+sub-t15 c = ?
 
-sub-t23 : tie.Need-sub-t23 Inv-loop μ-loop
-sub-t23 c = let e = c .before .before .before .before .before .before .put-part-points .ensures .1 in omega arith
+-- src/lib.rt:245:13
+sub-t24 : tie.Need-sub-t24 Inv-loop μ-loop
+sub-t24 c = ?
 
-mul-t25 : tie.Need-mul-t25 Inv-loop μ-loop
-mul-t25 c =
-    let h = c .before .before .before .before .before .before .before .before .before .before .before .before .pre .0 .count in
-    let k = parts-long _ _ _ _ _ (c .before .before .before .before .before .before .before .before .before .before .before .loop .inv) in
-    omega arith
+-- src/lib.rt:240:9
+mul-t26 : tie.Need-mul-t26 Inv-loop μ-loop
+mul-t26 c = ?
 
+-- src/lib.rt:240:9
 slice-set-from-parts : tie.Need-slice-set-from-parts Inv-loop μ-loop
-slice-set-from-parts c =
-    let h = c .before .before .before .before .before .before .before .before .before .before .before .before .pre .0 .count in
-    let k = parts-long _ _ _ _ _ (c .before .before .before .before .before .before .before .before .before .before .before .loop .inv) in
-    omega arith
+slice-set-from-parts c = ?
 
+-- src/lib.rt:248:9
+add-first : tie.Need-add-first Inv-loop μ-loop
+add-first c = ?
+
+-- src/lib.rt:249:9
 add-i : tie.Need-add-i Inv-loop μ-loop
-add-i c = let h = c .before .before .before .before .before .before .before .before .before .before .before .before .pre .0 .count in omega arith
+add-i c = ?
 
+-- src/lib.rt:237:5
 loop-less : tie.Need-loop-less Inv-loop μ-loop
-loop-less c = omega arith
+loop-less c = ?
 
+-- src/lib.rt:237:5
 loop-again : tie.Need-loop-again Inv-loop μ-loop
-loop-again c = puts-more _ _ _ _ _ (c .before .before .before .before .before .before .before .before .before .before .before .loop .inv) (omega arith) (c .before .before .before .before .before .before .put-part-points .ensures)
+loop-again c = ?
 
+-- src/lib.rt:219:1
 same-length : tie.Need-same-length Inv-loop μ-loop
-same-length c = drawn-long _ _ _ _ _ (c .before .loop .inv)
+same-length c = ?
 
+-- src/lib.rt:219:1
 same-length-2 : tie.Need-same-length-2 Inv-loop μ-loop
-same-length-2 c = sampled-long _ _ _ _ _ (c .before .loop .inv)
+same-length-2 c = ?
 
+-- src/lib.rt:219:1
 same-length-3 : tie.Need-same-length-3 Inv-loop μ-loop
-same-length-3 c = parts-long _ _ _ _ _ (c .before .loop .inv)
+same-length-3 c = ?
 
+-- src/lib.rt:219:1
 returns : tie.Need-returns Inv-loop μ-loop
-returns c = puts-end _ _ _ _ _ (c .before .loop .inv) (omega arith)
+returns c = ?
 
 pub put-parts-spec : {M : Type 1} → statement M
 put-parts-spec =
@@ -76,10 +84,11 @@ put-parts-spec =
     mul-p
     element-copy-out-p
     put-part-points-requires
-    sub-t14
-    sub-t23
-    mul-t25
+    sub-t15
+    sub-t24
+    mul-t26
     slice-set-from-parts
+    add-first
     add-i
     loop-less
     loop-again
