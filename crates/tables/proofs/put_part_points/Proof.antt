@@ -1,51 +1,59 @@
 use borrow.Author.Needs.{needs}
+use Rattle.mechanism.specs.Segments.{outlinesIn}
+use Rattle.drawing.specs.Samples.{mouthsIn}
+use Rattle.drawing.proofs.Segments.{from-part}
+use Rattle.tables.proofs.Puts.{asks-drawn, asks-sampled, of-drawn, of-sampled, of-none}
 use Rattle.tables.proofs.put_part_points.Statement.{statement}
 use Rattle.tables.proofs.put_part_points.Tie as tie
-use Rattle.tables.proofs.put_part_points.Reads as reads
-use Rattle.tables.proofs.put_part_points.Lts as lts
-use Rattle.drawing.proofs.is_sampled.Reads as is-sampled-reads
-use Rattle.tables.proofs.put_drawn.Reads as put-drawn-reads
-use Rattle.tables.proofs.put_sampled.Reads as put-sampled-reads
 
--- src/lib.rt:203:13
 mul-p : tie.Need-mul-p
 mul-p c = search needs
 
--- src/lib.rt:203:13
 element-copy-out-p : tie.Need-element-copy-out-p
 element-copy-out-p c = search needs
 
--- src/lib.rt:204:9
 put-drawn-requires : tie.Need-put-drawn-requires
-put-drawn-requires c κs = ?
+put-drawn-requires c κs =
+    let s = c .before .before in
+    asks-drawn (s .args .segs .now) (s .args .t3) (s .pre .0) (s .pre .1) (s .pre .2) (s .pre .3) (s .pre .5) (s .pre .7)
 
--- src/lib.rt:205:8
 is-sampled-requires : tie.Need-is-sampled-requires
 is-sampled-requires c κs = search needs
 
--- src/lib.rt:206:13
 put-sampled-requires : tie.Need-put-sampled-requires
-put-sampled-requires c κs = ?
+put-sampled-requires c κs =
+    let s = c .before .before .before .before .before .before .before in
+    asks-sampled (s .args .segs .now) (s .args .t3) (s .pre .0) (s .pre .1) (s .pre .2) (s .pre .3) (s .pre .6) (s .pre .8)
 
--- src/lib.rt:207:9
 same-length : tie.Need-same-length
 same-length c = search needs
 
--- src/lib.rt:207:9
 same-length-2 : tie.Need-same-length-2
 same-length-2 c = search needs
 
--- src/lib.rt:207:9
 returns : tie.Need-returns
-returns c = ?
+returns c =
+    let s = c .before .before .before .before .before .before .before .before .before in
+    let ps = s .args .t3 in
+    let o = outlinesIn (s .args .segs .now) in
+    let i = s .args .i in
+    let e = from-part ps o i (s .pre .0) (s .pre .1) (s .pre .2) in
+    let d = of-drawn ps o i _ _ e (c .before .before .before .before .before .before .put-drawn .ensures) in
+    let m = of-sampled ps o i _ _ e (mouthsIn (s .args .mouths .now)) (s .pre .4) (c .before .before .before .before .is-sampled .ensures) (c .before .before .before .if1 .taken) (c .before .put-sampled .ensures) in
+    (d .0, m .0, d .1, m .1)
 
--- src/lib.rt:190:1
 same-length-3 : tie.Need-same-length-3
 same-length-3 c = search needs
 
--- src/lib.rt:190:1
 returns-2 : tie.Need-returns-2
-returns-2 c = ?
+returns-2 c =
+    let s = c .before .before .before .before .before .before in
+    let ps = s .args .t3 in
+    let o = outlinesIn (s .args .segs .now) in
+    let i = s .args .i in
+    let d = of-drawn ps o i _ _ (from-part ps o i (s .pre .0) (s .pre .1) (s .pre .2)) (c .before .before .before .put-drawn .ensures) in
+    let m = of-none ps o i _ _ (c .before .is-sampled .ensures) (c .if1 .left) in
+    (d .0, m .0, d .1, m .1)
 
 pub put-part-points-spec : {M : Type 1} → statement M
 put-part-points-spec =
