@@ -56,7 +56,7 @@ module _ (ps : Parts) (o o′ : Outlines) (same : (i : ℕ) → silhouetteAt ps 
       ap₂ (λ (x y : List Point). partAt ps i .body ∷ length x ∷ length y ∷ length (sampledUpTo ps o i) ∷ length (sampledOf ps o i) ∷ []) (drawn-up i) (drawn-of i)
       ∙ ap₂ (λ (x y : List Point). partAt ps i .body ∷ length (drawnUpTo ps o′ i) ∷ length (drawnOf ps o′ i) ∷ length x ∷ length y ∷ []) (sampled-up i) (sampled-of i)
 
-  pub tables-same : (drawn₀ sampled₀ : List (List Float)) (parts₀ : List (List ℕ)) {drawn sampled : List (List Float)} {parts : List (List ℕ)}
+  tables-same : (drawn₀ sampled₀ : List (List Float)) (parts₀ : List (List ℕ)) {drawn sampled : List (List Float)} {parts : List (List ℕ)}
       → (drawn ≡ sets drawn₀ 0 (drawnTable ps o)) × (sampled ≡ sets sampled₀ 0 (sampledTable ps o)) × (parts ≡ sets parts₀ 0 (partTable ps o))
       → (drawn ≡ sets drawn₀ 0 (drawnTable ps o′)) × (sampled ≡ sets sampled₀ 0 (sampledTable ps o′)) × (parts ≡ sets parts₀ 0 (partTable ps o′))
   tables-same drawn₀ sampled₀ parts₀ w = (
@@ -66,50 +66,60 @@ module _ (ps : Parts) (o o′ : Outlines) (same : (i : ℕ) → silhouetteAt ps 
   )
 
 -- ---- the arrays as they are before anything is put
-abbrev pub octets : List (List Float)
+abbrev octets : List (List Float)
 octets = replicate 384 (replicate 8 zeroF)
 
-abbrev pub quads : List (List Float)
+abbrev quads : List (List Float)
 quads = replicate 768 (replicate 4 zeroF)
 
 -- ---- the segments that `put_segs` leaves
 module _ (ps : Parts) (o : Outlines) {k : ℕ} {rows : List (List Float)} (long : length (o .seg) ≡ 384) (counted : (k ≡ segsCounted ps) × (k ≤ 384))
     (put : rows ≡ cond (segsFit k (length octets)) (sets octets 0 (segRows o k)) octets) where
-  pub rows-384 : length rows ≡ 384
-  rows-384 = sym (rows-long rows) ∙ put-long ps o octets long counted (counted .1) put
+  pub tables-put : (drawn₀ sampled₀ : List (List Float)) (parts₀ : List (List ℕ)) {drawn sampled : List (List Float)} {parts : List (List ℕ)}
+      → (drawn ≡ sets drawn₀ 0 (drawnTable ps (outlinesIn rows))) × (sampled ≡ sets sampled₀ 0 (sampledTable ps (outlinesIn rows))) × (parts ≡ sets parts₀ 0 (partTable ps (outlinesIn rows)))
+      → (drawn ≡ sets drawn₀ 0 (drawnTable ps o)) × (sampled ≡ sets sampled₀ 0 (sampledTable ps o)) × (parts ≡ sets parts₀ 0 (partTable ps o))
+  tables-put = tables-same ps (outlinesIn rows) o (put-same ps o octets long counted (counted .1) put)
 
-  pub silhouettes : (i : ℕ) → silhouetteAt ps (outlinesIn rows) i ≡ silhouetteAt ps o i
-  silhouettes = put-same ps o octets long counted (counted .1) put
+  module _ (few : FewParts ps) where
+    pub segs-within : startOfPart ps (ps .count) ≤ length rows
+    segs-within =
+        let e : length rows ≡ 384 = sym (rows-long rows) ∙ put-long ps o octets long counted (counted .1) put in
+        let t = few .total in
+        omega (arith, e, t)
 
--- ---- the mouths that `draw_mouths` leaves
-module _ (ps : Parts) (o : Outlines) (few : FewParts ps) {segs n : ℕ} {l : List (List Float)} (long : segs ≡ 384)
-    (drawn : (n ≡ cond (mouthRoom ps (length quads) segs) (length (mouthsOf ps o)) 0) × (l ≡ cond (mouthRoom ps (length quads) segs) (sets quads 0 (map mouthRow (mouthsOf ps o))) quads)) where
-  room : mouthRoom ps (length quads) segs ≡ true
-  room =
-      let e = cond-no 0 (startOfPart ps (ps .count)) (parts-few ps few) in
-      let t = few .total in
-      and-yes _ (ap not (parts-few ps few)) ∙ and-yes _ (le-leb (2 * segsCounted ps) 768 (omega (arith, e, t))) ∙ le-leb (segsCounted ps) segs (omega (arith, e, t, long))
+    -- ---- the mouths that `draw_mouths` leaves
+    abbrev mouths : List Edge
+    mouths = mouthsOf ps (outlinesIn rows)
 
-  mouth-count : n ≡ length (mouthsOf ps o)
-  mouth-count = drawn .0 ∙ cond-yes _ _ room
+    room : mouthRoom ps (length quads) (length rows) ≡ true
+    room =
+        let e = cond-no 0 (startOfPart ps (ps .count)) (parts-few ps few) in
+        let t = few .total in
+        let w = segs-within in
+        and-yes _ (ap not (parts-few ps few)) ∙ and-yes _ (le-leb (2 * segsCounted ps) 768 (omega (arith, e, t))) ∙ le-leb (segsCounted ps) (length rows) (omega (arith, e, w))
 
-  mouths-are : l ≡ sets quads 0 (map mouthRow (mouthsOf ps o))
-  mouths-are = drawn .1 ∙ cond-yes _ _ room
+    module _ {n : ℕ} {l : List (List Float)}
+        (drawn : (n ≡ cond (mouthRoom ps (length quads) (length rows)) (length mouths) 0) × (l ≡ cond (mouthRoom ps (length quads) (length rows)) (sets quads 0 (map mouthRow mouths)) quads)) where
+      mouth-count : n ≡ length mouths
+      mouth-count = drawn .0 ∙ cond-yes _ _ room
 
-  pub mouths-within : n ≤ length l
-  mouths-within =
-      let e = mouth-count in
-      let f = mouths-few ps o few in
-      let k : length l ≡ 768 = ap length mouths-are ∙ length-sets quads 0 (map mouthRow (mouthsOf ps o)) in
-      omega (arith, e, f, k)
+      mouths-are : l ≡ sets quads 0 (map mouthRow mouths)
+      mouths-are = drawn .1 ∙ cond-yes _ _ room
 
-  pub mouths-counted : n ≡ length (take n l)
-  mouths-counted = sym (length-take-le n l mouths-within)
+      pub mouths-within : n ≤ length l
+      mouths-within =
+          let e = mouth-count in
+          let f = mouths-few ps (outlinesIn rows) few in
+          let k : length l ≡ 768 = ap length mouths-are ∙ length-sets quads 0 (map mouthRow mouths) in
+          omega (arith, e, f, k)
 
-  pub mouths-read : mouthsIn (take n l) ≡ mouthsOf ps o
-  mouths-read =
-      let f = mouths-few ps o few in
-      let m = length-map (mouthsOf ps o) mouthRow in
-      ap (λ (x : List (List Float)). mouthsIn (take n x)) mouths-are
-      ∙ ap mouthsIn (sets-taken (map mouthRow (mouthsOf ps o)) quads n (m ∙ sym mouth-count) (omega (arith, f, m)))
-      ∙ mouths-back (mouthsOf ps o)
+      pub mouths-counted : n ≡ length (take n l)
+      mouths-counted = sym (length-take-le n l mouths-within)
+
+      pub mouths-read : mouthsIn (take n l) ≡ mouths
+      mouths-read =
+          let f = mouths-few ps (outlinesIn rows) few in
+          let m = length-map mouths mouthRow in
+          ap (λ (x : List (List Float)). mouthsIn (take n x)) mouths-are
+          ∙ ap mouthsIn (sets-taken (map mouthRow mouths) quads n (m ∙ sym mouth-count) (omega (arith, f, m)))
+          ∙ mouths-back mouths
