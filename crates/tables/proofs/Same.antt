@@ -56,7 +56,7 @@ module _ (ps : Parts) (o o′ : Outlines) (same : (i : ℕ) → silhouetteAt ps 
       ap₂ (λ (x y : List Point). partAt ps i .body ∷ length x ∷ length y ∷ length (sampledUpTo ps o i) ∷ length (sampledOf ps o i) ∷ []) (drawn-up i) (drawn-of i)
       ∙ ap₂ (λ (x y : List Point). partAt ps i .body ∷ length (drawnUpTo ps o′ i) ∷ length (drawnOf ps o′ i) ∷ length x ∷ length y ∷ []) (sampled-up i) (sampled-of i)
 
-  tables-same : (drawn₀ sampled₀ : List (List Float)) (parts₀ : List (List ℕ)) {drawn sampled : List (List Float)} {parts : List (List ℕ)}
+  pub tables-same : (drawn₀ sampled₀ : List (List Float)) (parts₀ : List (List ℕ)) {drawn sampled : List (List Float)} {parts : List (List ℕ)}
       → (drawn ≡ sets drawn₀ 0 (drawnTable ps o)) × (sampled ≡ sets sampled₀ 0 (sampledTable ps o)) × (parts ≡ sets parts₀ 0 (partTable ps o))
       → (drawn ≡ sets drawn₀ 0 (drawnTable ps o′)) × (sampled ≡ sets sampled₀ 0 (sampledTable ps o′)) × (parts ≡ sets parts₀ 0 (partTable ps o′))
   tables-same drawn₀ sampled₀ parts₀ w = (
@@ -75,10 +75,8 @@ quads = replicate 768 (replicate 4 zeroF)
 -- ---- the segments that `put_segs` leaves
 module _ (ps : Parts) (o : Outlines) {k : ℕ} {rows : List (List Float)} (long : length (o .seg) ≡ 384) (counted : (k ≡ segsCounted ps) × (k ≤ 384))
     (put : rows ≡ cond (segsFit k (length octets)) (sets octets 0 (segRows o k)) octets) where
-  pub tables-put : (drawn₀ sampled₀ : List (List Float)) (parts₀ : List (List ℕ)) {drawn sampled : List (List Float)} {parts : List (List ℕ)}
-      → (drawn ≡ sets drawn₀ 0 (drawnTable ps (outlinesIn rows))) × (sampled ≡ sets sampled₀ 0 (sampledTable ps (outlinesIn rows))) × (parts ≡ sets parts₀ 0 (partTable ps (outlinesIn rows)))
-      → (drawn ≡ sets drawn₀ 0 (drawnTable ps o)) × (sampled ≡ sets sampled₀ 0 (sampledTable ps o)) × (parts ≡ sets parts₀ 0 (partTable ps o))
-  tables-put = tables-same ps (outlinesIn rows) o (put-same ps o octets long counted (counted .1) put)
+  pub silhouettes : (i : ℕ) → silhouetteAt ps (outlinesIn rows) i ≡ silhouetteAt ps o i
+  silhouettes = put-same ps o octets long counted (counted .1) put
 
   module _ (few : FewParts ps) where
     pub segs-within : startOfPart ps (ps .count) ≤ length rows

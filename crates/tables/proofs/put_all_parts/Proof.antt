@@ -1,6 +1,6 @@
 use borrow.Author.Needs.{needs}
 use Rattle.mechanism.proofs.Known.{outlines-long}
-use Rattle.tables.proofs.Same.{tables-put, segs-within, mouths-within, mouths-counted, mouths-read}
+use Rattle.tables.proofs.Same.{tables-same, silhouettes, segs-within, mouths-within, mouths-counted, mouths-read}
 use Rattle.tables.proofs.put_all_parts.Statement.{statement}
 use Rattle.tables.proofs.put_all_parts.Tie as tie
 
@@ -64,7 +64,7 @@ returns c =
     let long = outlines-long (s .args .o) _ (s .good .1 .1 .1 .1 .0) in
     let counted = c .before .before .before .before .before .before .before .before .before .before .before .before .before .before .before .segs-counted .ensures in
     let put = c .before .before .before .before .before .before .before .before .before .before .before .before .before .before .put-segs .ensures in
-    tables-put (s .args .ps) (s .args .o) long counted put (s .args .drawn .now) (s .args .sampled .now) (s .args .parts .now) (c .before .before .before .put-parts .ensures)
+    tables-same (s .args .ps) _ (s .args .o) (silhouettes (s .args .ps) (s .args .o) long counted put) (s .args .drawn .now) (s .args .sampled .now) (s .args .parts .now) (c .before .before .before .put-parts .ensures)
 
 pub put-all-parts-spec : {M : Type 1} → statement M
 put-all-parts-spec =
