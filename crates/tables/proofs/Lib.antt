@@ -1,5 +1,6 @@
 pub mod Known
 pub mod Written
 pub mod Puts
+pub mod Same
 pub mod Points
 pub mod Features

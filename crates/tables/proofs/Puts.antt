@@ -4,35 +4,32 @@ use native.Mathlib.Omega.{arith}
 use native.Mathlib.Numerals.{add-one}
 use native.Mathlib.Nat.{zero-add, add-zero, add-suc, suc-add}
 use mathlib.Core.Path.{_≡_, refl, sym, ap, ap₂, subst, _∙_}
-use mathlib.Core.Bool.{Bool, true, false, not, cond}
+use mathlib.Core.Bool.{Bool, true, false, cond}
 use mathlib.Core.List.{List, [], _∷_, _++_, map, map-append, append-nil}
-use lib.Dec.{leb}
 use lib.Ieee.{Float}
-use lib.ListN.{length, take, getD, set, replicate, length-map, length-append}
-use lib.Seq.{sets, length-sets, length-take-le}
+use lib.ListN.{length, getD, set, length-map, length-append}
+use lib.Seq.{sets, length-sets}
 use Rattle.laws.specs.Lists.{listIn, flat}
-use Rattle.laws.proofs.Choice.{and-yes, cond-yes, cond-no}
+use Rattle.laws.proofs.Choice.{cond-yes, cond-no}
 use Rattle.laws.proofs.Lists.{list-turn, flat-append, flat-short}
 use Rattle.laws.proofs.Sums.{sum-more}
-use Rattle.laws.proofs.Writing.{sets-append, sets-taken}
-use Rattle.ieee.specs.Consts.{zeroF}
+use Rattle.laws.proofs.Writing.{sets-append}
 use Rattle.geometry.specs.declared.Dir.{Dir}
 use Rattle.geometry.specs.declared.Point.{Point}
 use Rattle.geometry.specs.declared.Seg.{Seg}
 use Rattle.geometry.specs.declared.Seg.the-variants.{Line, Arc}
 use Rattle.mechanism.specs.Check.{FewParts}
-use Rattle.mechanism.specs.Description.{noSeg, sumIn, partAt, segsOf}
-use Rattle.mechanism.proofs.Checks.{parts-few}
+use Rattle.mechanism.specs.Description.{sumIn, partAt, segsOf, startOfPart}
+use Rattle.mechanism.specs.Segments.{outlinesIn}
+use Rattle.mechanism.proofs.SegRows.{rows-long}
 use Rattle.mechanism.specs.declared.Outlines.{Outlines}
 use Rattle.mechanism.specs.declared.Parts.{Parts}
-use Rattle.silhouette.specs.Silhouette.{segOf, segsIn, asSilhouette, silhouetteAt}
-use Rattle.silhouette.specs.declared.SilhouetteSegs.{SilhouetteSegs}
+use Rattle.silhouette.specs.Silhouette.{noLine, silhouetteAt, silhouetteCount}
 use Rattle.material.specs.Material.{Edge}
 use Rattle.drawing.specs.Drawing.{isSampled, drawnPoints, rowOf}
-use Rattle.drawing.specs.Samples.{onLine, samplePoints, mouthsOf, samplesOf, mouthRow, mouthsIn, mouthRoom}
-use Rattle.drawing.proofs.Segments.{Places, places-more, places-end, drawn-short, silhouette-short, silhouette-94, sil-segs, sil-count}
+use Rattle.drawing.specs.Samples.{onLine, samplePoints, mouthsOf, samplesOf}
+use Rattle.drawing.proofs.Segments.{Places, places-more, places-end, drawn-short, silhouette-short, silhouette-94, part-within, part-counted}
 use Rattle.drawing.proofs.Mouths.{of-line, of-arc, samples-short}
-use Rattle.drawing.proofs.Laid.{mouths-back, mouths-few}
 use Rattle.drawing.proofs.Lays.{list-length}
 use Rattle.tables.specs.Tables.{upTo, drawnOf, sampledOf, drawnUpTo, sampledUpTo, partRow, drawnTable, sampledTable, partTable}
 use Rattle.tables.specs.declared.Next.{Next}
@@ -63,14 +60,14 @@ module _ (at : ℕ) (out₀ : List (List Float)) {s : Seg} {r : ℕ} {out : List
   of-arc-as-is {c} {x} {from} {to} e w = as-is out₀ at (samplePoints s) (of-arc self at out₀ e (as-placed out₀ at (drawnPoints (Arc c x from to)) w))
 
 -- the points of a silhouette's segments
-module _ {b : ℕ} {f : Seg → List Point} {sil : SilhouetteSegs} {out₀ : List (List Float)} {at₀ : ℕ} {out : List (List Float)} {at i : ℕ} (l : sil .count ≤ length (sil .seg)) (p : Places b f self sil out₀ at₀ out at i) where
-  pub seg-more : {out′ : List (List Float)} {at′ : ℕ} → i < sil .count → ((s : Seg) → length (f s) ≤ b)
-      → (at′ ≡ at + length (f (segOf (getD (sil .seg) i noSeg)))) × (out′ ≡ sets out at (map rowOf (f (segOf (getD (sil .seg) i noSeg)))))
-      → Places b f self sil out₀ at₀ out′ at′ (i + 1)
-  seg-more h short e = places-more l p h short (as-placed out at (f (segOf (getD (sil .seg) i noSeg))) e)
+module _ {b : ℕ} {f : Seg → List Point} {l : List Seg} {out₀ : List (List Float)} {at₀ : ℕ} {out : List (List Float)} {at i : ℕ} (p : Places b f self l out₀ at₀ out at i) where
+  pub seg-more : {s : Seg} {out′ : List (List Float)} {at′ : ℕ} → i < length l → s ≡ getD l i noLine → ((s : Seg) → length (f s) ≤ b)
+      → (at′ ≡ at + length (f s)) × (out′ ≡ sets out at (map rowOf (f s)))
+      → Places b f self l out₀ at₀ out′ at′ (i + 1)
+  seg-more {s} h is short e = places-more p h is short (as-placed out at (f s) e)
 
-  pub seg-end : sil .count ≤ i → (at ≡ at₀ + length (flat f (segsIn sil))) × (out ≡ sets out₀ at₀ (map rowOf (flat f (segsIn sil))))
-  seg-end h = as-is out₀ at₀ (flat f (segsIn sil)) (places-end l p h)
+  pub seg-end : length l ≤ i → (at ≡ at₀ + length (flat f l)) × (out ≡ sets out₀ at₀ (map rowOf (flat f l)))
+  seg-end h = as-is out₀ at₀ (flat f l) (places-end p h)
 
 -- ---- lists made by an index, in two parts
 pub list-split : {A : Type 0} (f : ℕ → A) (a b j : ℕ) → listIn f (a + b) j ≡ listIn f a j ++ listIn f b (j + a)
@@ -149,23 +146,6 @@ module _ (ps : Parts) (o : Outlines) where
       go false = omega arith
 
   module _ (few : FewParts ps) (i : ℕ) (h : i < ps .count) where
-    -- there is room for the points of its silhouette
-    pub drawn-room : {r : SilhouetteSegs} {at n : ℕ} → r ≡ asSilhouette (silhouetteAt ps o i) → at ≡ length (drawnUpTo ps o i) → 6144 ≤ n → (r .count ≤ 94) × (at + 8 * r .count ≤ n)
-    drawn-room e a l =
-        let c = sil-count ps o i e .0 in
-        let d = sil-count ps o i e .1 in
-        let w = up-within (drawnOf ps o) 16 (segsOf ps) drawn-each i in
-        let t = few .all i h in
-        (c, omega (arith, d, w, t, a, l))
-
-    pub sampled-room : {r : SilhouetteSegs} {at n : ℕ} → r ≡ asSilhouette (silhouetteAt ps o i) → at ≡ length (sampledUpTo ps o i) → 13056 ≤ n → (r .count ≤ 94) × (at + 17 * r .count ≤ n)
-    sampled-room e a l =
-        let c = sil-count ps o i e .0 in
-        let d = sil-count ps o i e .1 in
-        let w = up-within (sampledOf ps o) 34 (segsOf ps) sampled-each i in
-        let t = few .all i h in
-        (c, omega (arith, d, w, t, a, l))
-
     -- the numbers of the part's row are small
     pub drawn-start : length (drawnUpTo ps o i) ≤ 6144
     drawn-start =
@@ -180,22 +160,19 @@ module _ (ps : Parts) (o : Outlines) where
         omega (arith, w, t)
 
   -- ---- what is written of a silhouette, said of its part
-  module _ (i at : ℕ) (out₀ : List (List Float)) {sil : SilhouetteSegs} (e : sil ≡ asSilhouette (silhouetteAt ps o i)) {r : ℕ} {out : List (List Float)} where
-    pub of-drawn : (r ≡ at + length (flat drawnPoints (segsIn sil))) × (out ≡ sets out₀ at (map rowOf (flat drawnPoints (segsIn sil))))
+  module _ (i at : ℕ) (out₀ : List (List Float)) {sil : List Seg} (e : sil ≡ silhouetteAt ps o i) {r : ℕ} {out : List (List Float)} where
+    pub of-drawn : (r ≡ at + length (flat drawnPoints sil)) × (out ≡ sets out₀ at (map rowOf (flat drawnPoints sil)))
         → (r ≡ at + length (drawnOf ps o i)) × (out ≡ sets out₀ at (map rowOf (drawnOf ps o i)))
     unfolding drawnOf
-    of-drawn w =
-        let s = sil-segs ps o i e in
-        (w .0 ∙ ap (λ (l : List Seg). at + length (flat drawnPoints l)) s, w .1 ∙ ap (λ (l : List Seg). sets out₀ at (map rowOf (flat drawnPoints l))) s)
+    of-drawn w = (w .0 ∙ ap (λ (l : List Seg). at + length (flat drawnPoints l)) e, w .1 ∙ ap (λ (l : List Seg). sets out₀ at (map rowOf (flat drawnPoints l))) e)
 
     pub of-sampled : {t : Bool} (mouths : List Edge) → mouths ≡ mouthsOf ps o → t ≡ isSampled (partAt ps i) → t ≡ true
-        → (r ≡ at + length (flat (samplesOf mouths) (segsIn sil))) × (out ≡ sets out₀ at (map rowOf (flat (samplesOf mouths) (segsIn sil))))
+        → (r ≡ at + length (flat (samplesOf mouths) sil)) × (out ≡ sets out₀ at (map rowOf (flat (samplesOf mouths) sil)))
         → (r ≡ at + length (sampledOf ps o i)) × (out ≡ sets out₀ at (map rowOf (sampledOf ps o i)))
     unfolding sampledOf
     of-sampled mouths m t y w =
-        let s = sil-segs ps o i e in
-        let k : flat (samplesOf mouths) (segsIn sil) ≡ cond (isSampled (partAt ps i)) (flat (samplesOf (mouthsOf ps o)) (silhouetteAt ps o i)) [] =
-        ap₂ (λ (x : List Edge) (l : List Seg). flat (samplesOf x) l) m s ∙ sym (cond-yes _ _ (sym t ∙ y)) in
+        let k : flat (samplesOf mouths) sil ≡ cond (isSampled (partAt ps i)) (flat (samplesOf (mouthsOf ps o)) (silhouetteAt ps o i)) [] =
+        ap₂ (λ (x : List Edge) (l : List Seg). flat (samplesOf x) l) m e ∙ sym (cond-yes _ _ (sym t ∙ y)) in
         (w .0 ∙ ap (λ (l : List Point). at + length l) k, w .1 ∙ ap (λ (l : List Point). sets out₀ at (map rowOf l)) k)
 
   pub of-none : (i at : ℕ) (out : List (List Float)) {t : Bool} → t ≡ isSampled (partAt ps i) → t ≡ false → (at ≡ at + length (sampledOf ps o i)) × (out ≡ sets out at (map rowOf (sampledOf ps o i)))
@@ -203,6 +180,28 @@ module _ (ps : Parts) (o : Outlines) where
   of-none i at out t n =
       let k : [] ≡ cond (isSampled (partAt ps i)) (flat (samplesOf (mouthsOf ps o)) (silhouetteAt ps o i)) [] = sym (cond-no _ _ (sym t ∙ n)) in
       (sym (add-zero at) ∙ ap (λ (l : List Point). at + length l) k, ap (λ (l : List Point). sets out at (map rowOf l)) k)
+
+-- ---- what the code asks of part i, whose segments start in row `first`
+module _ (rows : List (List Float)) (ps : Parts) {i first : ℕ} (few : FewParts ps) (h : i < ps .count) (e : first ≡ startOfPart ps i) (long : startOfPart ps (ps .count) ≤ length rows) where
+  in-rows : startOfPart ps (ps .count) ≤ length (outlinesIn rows .seg)
+  in-rows = let l = rows-long rows in omega (arith, long, l)
+
+  within-rows : first + segsOf ps i ≤ length rows
+  within-rows = let l = rows-long rows in let w = part-within ps (outlinesIn rows) i few h e in-rows in omega (arith, w, l)
+
+  pub asks-drawn : {at n : ℕ} → at ≡ length (drawnUpTo ps (outlinesIn rows) i) → 6144 ≤ n → (segsOf ps i ≤ 48) × (first + segsOf ps i ≤ length rows) × (at + 8 * silhouetteCount (partAt ps i) ≤ n)
+  asks-drawn a l =
+      let b = part-counted ps (outlinesIn rows) i few h e in-rows in
+      let w = up-within (drawnOf ps (outlinesIn rows)) 16 (segsOf ps) (drawn-each ps (outlinesIn rows)) i in
+      let t = few .all i h in
+      (few .each i h, within-rows, omega (arith, b, w, t, a, l))
+
+  pub asks-sampled : {at n : ℕ} → at ≡ length (sampledUpTo ps (outlinesIn rows) i) → 13056 ≤ n → (segsOf ps i ≤ 48) × (first + segsOf ps i ≤ length rows) × (at + 17 * silhouetteCount (partAt ps i) ≤ n)
+  asks-sampled a l =
+      let b = part-counted ps (outlinesIn rows) i few h e in-rows in
+      let w = up-within (sampledOf ps (outlinesIn rows)) 34 (segsOf ps) (sampled-each ps (outlinesIn rows)) i in
+      let t = few .all i h in
+      (few .each i h, within-rows, omega (arith, b, w, t, a, l))
 
 -- ---- more behind what is written from the front on
 pub behind : {A : Type 0} (l xs ys : List A) (n : ℕ) → n ≡ length xs → sets (sets l 0 xs) n ys ≡ sets l 0 (xs ++ ys)
@@ -274,36 +273,3 @@ module _ (ps : Parts) (o : Outlines) (drawn₀ sampled₀ : List (List Float)) (
           p .sampled-rows ∙ ap (λ (n : ℕ). sets sampled₀ 0 (map rowOf (sampledUpTo ps o n))) e,
           p .part-rows ∙ ap (λ (n : ℕ). sets parts₀ 0 (listIn (partRow ps o) n 0)) e,
         )
-
--- ---- the mouths that `draw_mouths` leaves
-abbrev pub quads : List (List Float)
-quads = replicate 768 (replicate 4 zeroF)
-
-module _ (ps : Parts) (o : Outlines) (few : FewParts ps) (l : List (List Float)) {n : ℕ} {l′ : List (List Float)} (long : length l ≡ 768)
-    (drawn : (n ≡ cond (mouthRoom ps (length l)) (length (mouthsOf ps o)) 0) × (l′ ≡ cond (mouthRoom ps (length l)) (sets l 0 (map mouthRow (mouthsOf ps o))) l)) where
-  room : mouthRoom ps (length l) ≡ true
-  room = and-yes _ (ap not (parts-few ps few)) ∙ ap (leb 768) long
-
-  mouth-count : n ≡ length (mouthsOf ps o)
-  mouth-count = drawn .0 ∙ cond-yes _ _ room
-
-  mouths-are : l′ ≡ sets l 0 (map mouthRow (mouthsOf ps o))
-  mouths-are = drawn .1 ∙ cond-yes _ _ room
-
-  pub mouths-within : n ≤ length l′
-  mouths-within =
-      let e = mouth-count in
-      let f = mouths-few ps o few in
-      let k = ap length mouths-are ∙ length-sets l 0 (map mouthRow (mouthsOf ps o)) in
-      omega (arith, e, f, k, long)
-
-  pub mouths-counted : n ≡ length (take n l′)
-  mouths-counted = sym (length-take-le n l′ mouths-within)
-
-  pub mouths-read : mouthsIn (take n l′) ≡ mouthsOf ps o
-  mouths-read =
-      let f = mouths-few ps o few in
-      let m = length-map (mouthsOf ps o) mouthRow in
-      ap (λ (x : List (List Float)). mouthsIn (take n x)) mouths-are
-      ∙ ap mouthsIn (sets-taken (map mouthRow (mouthsOf ps o)) l n (m ∙ sym mouth-count) (omega (arith, f, m, long)))
-      ∙ mouths-back (mouthsOf ps o)

@@ -8,7 +8,9 @@ ghost use lib.Seq.{sets};
 ghost use Rattle.laws.specs.Lists.{listIn, flat};
 ghost use Rattle.mechanism.specs.Check.{checkOf, pairDrawn, FewParts};
 ghost use Rattle.bodies.specs.declared.Checked.the-variants.{Accepted, Refused};
-ghost use Rattle.silhouette.specs.Silhouette.{segsIn};
+ghost use Rattle.mechanism.specs.Description.{startOfPart};
+ghost use Rattle.mechanism.specs.Segments.{outlinesIn};
+ghost use Rattle.silhouette.specs.Silhouette.{silhouetteFrom, silhouetteCount};
 ghost use Rattle.drawing.specs.Drawing.{drawnPoints, rowOf};
 ghost use Rattle.drawing.specs.Samples.{onLine, samplePoints, samplesOf, mouthsOf, mouthsIn};
 ghost use Rattle.tables.specs.Tables.{drawnOf, sampledOf, drawnUpTo, sampledUpTo, drawnTable, sampledTable, partTable, faceRows, faceNames, discRows, discNames, geometryOf, sideRow, sampledRow, lessCuts, pairFaces, pairFaceNames, pairDiscs, pairDiscNames, pairSides, pairCenters, pairChoices, faceTable, faceNameTable, discTable, discNameTable, sideTable, centerTable, choiceTable, writtenIf};
@@ -29,20 +31,22 @@ use mechanism::Outlines;
 use mechanism::Pairs;
 use mechanism::Parts;
 use mechanism::check::check;
+use mechanism::check::segs_counted;
 use mechanism::features::Piece;
 use mechanism::pair::ContactPair;
 use mechanism::pair::PairGeometry;
 use mechanism::pair::Surface;
-use mechanism::part::OutlineSeg;
 use mechanism::part::Part;
+use mechanism::segments::SegRow;
+use mechanism::segments::put_segs;
 use sides::PlacedDisc;
 use sides::PlacedFace;
 use sides::PlacedPoint;
 use sides::SideFeatures;
 use sides::contacts::PairFeatures;
 use sides::contacts::pair_features_at;
-use silhouette::SilhouetteSegs;
-use silhouette::silhouette_at;
+use silhouette::rows::silhouette_count;
+use silhouette::rows::silhouette_seg;
 use strips::ChoiceRow;
 use strips::DiscRow;
 use strips::FaceRow;
@@ -102,18 +106,16 @@ fn put_drawn_seg(out: &mut [PointRow], at: usize, s: Seg) -> usize
     at + k
 }
 
-// Writes a silhouette as it is drawn, from `at` on.
-fn put_drawn(out: &mut [PointRow], at: usize, sil: SilhouetteSegs) -> usize
-    requires { ⌜ (sil .count ≤ 94) × (at + 8 * sil .count ≤ length (now out)) ⌝ }
-    ensures { λ r. ⌜ (r ≡ at + length (flat drawnPoints (segsIn sil))) × (now (out .exit) ≡ sets (now (out .entry)) at (map rowOf (flat drawnPoints (segsIn sil)))) ⌝ }
+// Writes the silhouette of a part whose outline starts in row `first` as it is drawn, from `at` on.
+fn put_drawn(out: &mut [PointRow], at: usize, segs: &[SegRow], first: usize, p: Part) -> usize
+    requires { ⌜ (p .segs ≤ 48) × (first + p .segs ≤ length (now segs)) × (at + 8 * silhouetteCount p ≤ length (now out)) ⌝ }
+    ensures { λ r. ⌜ (r ≡ at + length (flat drawnPoints (silhouetteFrom (outlinesIn (now (segs .entry))) first p))) × (now (out .exit) ≡ sets (now (out .entry)) at (map rowOf (flat drawnPoints (silhouetteFrom (outlinesIn (now (segs .entry))) first p)))) ⌝ }
 {
-    let n = sil.count;
+    let n = silhouette_count(p);
     let mut to = at;
     let mut i: usize = 0;
     while i < n {
-        let b = sil.seg[i];
-        let s = b.seg;
-        to = put_drawn_seg(out, to, s);
+        to = put_drawn_seg(out, to, silhouette_seg(segs, first, p, i));
         i += 1;
     }
     to
@@ -156,18 +158,23 @@ fn put_sampled_seg(out: &mut [PointRow], at: usize, s: Seg, mouths: &[Mouth]) ->
     put_points(out, at, s)
 }
 
-// Writes the samples of a silhouette, from `at` on.
-fn put_sampled(out: &mut [PointRow], at: usize, sil: SilhouetteSegs, mouths: &[Mouth]) -> usize
-    requires { ⌜ (sil .count ≤ 94) × (at + 17 * sil .count ≤ length (now out)) ⌝ }
-    ensures { λ r. ⌜ (r ≡ at + length (flat (samplesOf (mouthsIn (now (mouths .entry)))) (segsIn sil))) × (now (out .exit) ≡ sets (now (out .entry)) at (map rowOf (flat (samplesOf (mouthsIn (now (mouths .entry)))) (segsIn sil)))) ⌝ }
+// Writes the samples of the silhouette of a part whose outline starts in row `first`, from `at` on.
+fn put_sampled(
+    out: &mut [PointRow],
+    at: usize,
+    segs: &[SegRow],
+    first: usize,
+    p: Part,
+    mouths: &[Mouth],
+) -> usize
+    requires { ⌜ (p .segs ≤ 48) × (first + p .segs ≤ length (now segs)) × (at + 17 * silhouetteCount p ≤ length (now out)) ⌝ }
+    ensures { λ r. ⌜ (r ≡ at + length (flat (samplesOf (mouthsIn (now (mouths .entry)))) (silhouetteFrom (outlinesIn (now (segs .entry))) first p))) × (now (out .exit) ≡ sets (now (out .entry)) at (map rowOf (flat (samplesOf (mouthsIn (now (mouths .entry)))) (silhouetteFrom (outlinesIn (now (segs .entry))) first p)))) ⌝ }
 {
-    let n = sil.count;
+    let n = silhouette_count(p);
     let mut to = at;
     let mut i: usize = 0;
     while i < n {
-        let b = sil.seg[i];
-        let s = b.seg;
-        to = put_sampled_seg(out, to, s, mouths);
+        to = put_sampled_seg(out, to, silhouette_seg(segs, first, p, i), mouths);
         i += 1;
     }
     to
@@ -179,24 +186,24 @@ struct Next {
     sampled: usize,
 }
 
-// Writes the points of part i behind those of the parts before it.
+// Writes the points of part i, whose outline starts in row `first`, behind those of the parts before it.
 fn put_part_points(
     drawn: &mut [PointRow],
     sampled: &mut [PointRow],
     ps: Parts,
-    o: Outlines,
+    segs: &[SegRow],
     mouths: &[Mouth],
     i: usize,
+    first: usize,
     at: Next,
 ) -> Next
-    requires { ⌜ FewParts ps × (i < ps .count) × (mouthsIn (now mouths) ≡ mouthsOf ps o) × (at .drawn ≡ length (drawnUpTo ps o i)) × (at .sampled ≡ length (sampledUpTo ps o i)) × (6144 ≤ length (now drawn)) × (13056 ≤ length (now sampled)) ⌝ }
-    ensures { λ r. ⌜ (r .drawn ≡ at .drawn + length (drawnOf ps o i)) × (r .sampled ≡ at .sampled + length (sampledOf ps o i)) × (now (drawn .exit) ≡ sets (now (drawn .entry)) (at .drawn) (map rowOf (drawnOf ps o i))) × (now (sampled .exit) ≡ sets (now (sampled .entry)) (at .sampled) (map rowOf (sampledOf ps o i))) ⌝ }
+    requires { ⌜ FewParts ps × (i < ps .count) × (first ≡ startOfPart ps i) × (startOfPart ps (ps .count) ≤ length (now segs)) × (mouthsIn (now mouths) ≡ mouthsOf ps (outlinesIn (now segs))) × (at .drawn ≡ length (drawnUpTo ps (outlinesIn (now segs)) i)) × (at .sampled ≡ length (sampledUpTo ps (outlinesIn (now segs)) i)) × (6144 ≤ length (now drawn)) × (13056 ≤ length (now sampled)) ⌝ }
+    ensures { λ r. ⌜ (r .drawn ≡ at .drawn + length (drawnOf ps (outlinesIn (now (segs .entry))) i)) × (r .sampled ≡ at .sampled + length (sampledOf ps (outlinesIn (now (segs .entry))) i)) × (now (drawn .exit) ≡ sets (now (drawn .entry)) (at .drawn) (map rowOf (drawnOf ps (outlinesIn (now (segs .entry))) i))) × (now (sampled .exit) ≡ sets (now (sampled .entry)) (at .sampled) (map rowOf (sampledOf ps (outlinesIn (now (segs .entry))) i))) ⌝ }
 {
     let p = ps.part[i];
-    let sil = silhouette_at(ps, o, i);
-    let d = put_drawn(drawn, at.drawn, sil);
+    let d = put_drawn(drawn, at.drawn, segs, first, p);
     if is_sampled(p) {
-        let s = put_sampled(sampled, at.sampled, sil, mouths);
+        let s = put_sampled(sampled, at.sampled, segs, first, p, mouths);
         return Next {
             drawn: d,
             sampled: s,
@@ -214,13 +221,14 @@ fn put_parts(
     sampled: &mut [PointRow],
     parts: &mut [PartRow],
     ps: Parts,
-    o: Outlines,
+    segs: &[SegRow],
     mouths: &[Mouth],
 )
-    requires { ⌜ FewParts ps × (mouthsIn (now mouths) ≡ mouthsOf ps o) × (6144 ≤ length (now drawn)) × (13056 ≤ length (now sampled)) × (32 ≤ length (now parts)) ⌝ }
-    ensures { λ _. ⌜ (now (drawn .exit) ≡ sets (now (drawn .entry)) 0 (drawnTable ps o)) × (now (sampled .exit) ≡ sets (now (sampled .entry)) 0 (sampledTable ps o)) × (now (parts .exit) ≡ sets (now (parts .entry)) 0 (partTable ps o)) ⌝ }
+    requires { ⌜ FewParts ps × (startOfPart ps (ps .count) ≤ length (now segs)) × (mouthsIn (now mouths) ≡ mouthsOf ps (outlinesIn (now segs))) × (6144 ≤ length (now drawn)) × (13056 ≤ length (now sampled)) × (32 ≤ length (now parts)) ⌝ }
+    ensures { λ _. ⌜ (now (drawn .exit) ≡ sets (now (drawn .entry)) 0 (drawnTable ps (outlinesIn (now (segs .entry))))) × (now (sampled .exit) ≡ sets (now (sampled .entry)) 0 (sampledTable ps (outlinesIn (now (segs .entry))))) × (now (parts .exit) ≡ sets (now (parts .entry)) 0 (partTable ps (outlinesIn (now (segs .entry))))) ⌝ }
 {
     let n = ps.count;
+    let mut first: usize = 0;
     let mut at = Next {
         drawn: 0,
         sampled: 0,
@@ -228,7 +236,7 @@ fn put_parts(
     let mut i: usize = 0;
     while i < n {
         let p = ps.part[i];
-        let to = put_part_points(drawn, sampled, ps, o, mouths, i, at);
+        let to = put_part_points(drawn, sampled, ps, segs, mouths, i, first, at);
         parts[i] = [
             p.body,
             at.drawn,
@@ -237,11 +245,12 @@ fn put_parts(
             to.sampled - at.sampled,
         ];
         at = to;
+        first += p.segs;
         i += 1;
     }
 }
 
-// The same, with the mouths of all cuts.
+// The same of outlines as a value, with the mouths of all cuts.
 fn put_all_parts(
     drawn: &mut [PointRow],
     sampled: &mut [PointRow],
@@ -252,9 +261,11 @@ fn put_all_parts(
     requires { ⌜ FewParts ps × (6144 ≤ length (now drawn)) × (13056 ≤ length (now sampled)) × (32 ≤ length (now parts)) ⌝ }
     ensures { λ _. ⌜ (now (drawn .exit) ≡ sets (now (drawn .entry)) 0 (drawnTable ps o)) × (now (sampled .exit) ≡ sets (now (sampled .entry)) 0 (sampledTable ps o)) × (now (parts .exit) ≡ sets (now (parts .entry)) 0 (partTable ps o)) ⌝ }
 {
+    let mut segs = [[0.0; 8]; 384];
     let mut mouths = [[0.0; 4]; 768];
-    let n = draw_mouths(&mut mouths, ps, o);
-    put_parts(drawn, sampled, parts, ps, o, &mouths[..n]);
+    put_segs(&mut segs, o, segs_counted(ps));
+    let n = draw_mouths(&mut mouths, ps, &segs);
+    put_parts(drawn, sampled, parts, ps, &segs, &mouths[..n]);
 }
 
 // ---- features

@@ -1,0 +1,123 @@
+-- The tables of points and parts ask of the outlines the silhouettes alone: they are the same of rows into which the segments were put. Assumes nothing.
+use Prim.Native.Nat.{ℕ, _*_, _≤_}
+use native.Mathlib.Omega.{arith}
+use mathlib.Core.Path.{_≡_, refl, sym, ap, ap₂, _∙_}
+use mathlib.Core.Bool.{true, not, cond}
+use mathlib.Core.List.{List, [], _∷_, _++_, map}
+use lib.Ieee.{Float}
+use lib.ListN.{length, take, replicate, length-map}
+use lib.Seq.{sets, length-sets, length-take-le}
+use borrow.Author.Tests.{le-leb}
+use Rattle.laws.specs.Lists.{flat}
+use Rattle.laws.proofs.Choice.{and-yes, cond-yes, cond-no}
+use Rattle.laws.proofs.Lists.{list-same}
+use Rattle.laws.proofs.Writing.{sets-taken}
+use Rattle.ieee.specs.Consts.{zeroF}
+use Rattle.geometry.specs.declared.Point.{Point}
+use Rattle.geometry.specs.declared.Seg.{Seg}
+use Rattle.mechanism.specs.Check.{FewParts}
+use Rattle.mechanism.specs.Description.{partAt, startOfPart}
+use Rattle.mechanism.specs.Segments.{outlinesIn, segRows, segsFit, segsCounted}
+use Rattle.mechanism.proofs.Checks.{parts-few}
+use Rattle.mechanism.proofs.SegRows.{rows-long}
+use Rattle.mechanism.specs.declared.Outlines.{Outlines}
+use Rattle.mechanism.specs.declared.Parts.{Parts}
+use Rattle.silhouette.specs.Silhouette.{silhouetteAt}
+use Rattle.silhouette.proofs.BySegment.{put-long, put-same}
+use Rattle.material.specs.Material.{Edge}
+use Rattle.drawing.specs.Drawing.{isSampled, drawnPoints, rowOf}
+use Rattle.drawing.specs.Samples.{mouthsOf, samplesOf, mouthRow, mouthsIn, mouthRoom}
+use Rattle.drawing.proofs.Laid.{mouths-back, mouths-few}
+use Rattle.drawing.proofs.Same.{mouths-same}
+use Rattle.tables.specs.Tables.{upTo, drawnOf, sampledOf, drawnUpTo, sampledUpTo, partRow, drawnTable, sampledTable, partTable}
+
+flat-each : {A B : Type 0} (f g : A → List B) → ((x : A) → f x ≡ g x) → (l : List A) → flat f l ≡ flat g l
+unfolding flat
+flat-each f g e [] = refl
+flat-each {B = B} f g e (x ∷ l) = ap₂ (λ (y m : List B). y ++ m) (e x) (flat-each f g e l)
+
+module _ (ps : Parts) (o o′ : Outlines) (same : (i : ℕ) → silhouetteAt ps o i ≡ silhouetteAt ps o′ i) where
+  drawn-of : (i : ℕ) → drawnOf ps o i ≡ drawnOf ps o′ i
+  unfolding drawnOf
+  drawn-of i = ap (flat drawnPoints) (same i)
+
+  sampled-of : (i : ℕ) → sampledOf ps o i ≡ sampledOf ps o′ i
+  unfolding sampledOf
+  sampled-of i = ap₂ (λ (m : List Edge) (l : List Seg). cond (isSampled (partAt ps i)) (flat (samplesOf m) l) []) (mouths-same ps o o′ same) (same i)
+
+  drawn-up : (n : ℕ) → drawnUpTo ps o n ≡ drawnUpTo ps o′ n
+  drawn-up n = flat-each (drawnOf ps o) (drawnOf ps o′) drawn-of (upTo n)
+
+  sampled-up : (n : ℕ) → sampledUpTo ps o n ≡ sampledUpTo ps o′ n
+  sampled-up n = flat-each (sampledOf ps o) (sampledOf ps o′) sampled-of (upTo n)
+
+  part-row : (i : ℕ) → partRow ps o i ≡ partRow ps o′ i
+  part-row i =
+      ap₂ (λ (x y : List Point). partAt ps i .body ∷ length x ∷ length y ∷ length (sampledUpTo ps o i) ∷ length (sampledOf ps o i) ∷ []) (drawn-up i) (drawn-of i)
+      ∙ ap₂ (λ (x y : List Point). partAt ps i .body ∷ length (drawnUpTo ps o′ i) ∷ length (drawnOf ps o′ i) ∷ length x ∷ length y ∷ []) (sampled-up i) (sampled-of i)
+
+  pub tables-same : (drawn₀ sampled₀ : List (List Float)) (parts₀ : List (List ℕ)) {drawn sampled : List (List Float)} {parts : List (List ℕ)}
+      → (drawn ≡ sets drawn₀ 0 (drawnTable ps o)) × (sampled ≡ sets sampled₀ 0 (sampledTable ps o)) × (parts ≡ sets parts₀ 0 (partTable ps o))
+      → (drawn ≡ sets drawn₀ 0 (drawnTable ps o′)) × (sampled ≡ sets sampled₀ 0 (sampledTable ps o′)) × (parts ≡ sets parts₀ 0 (partTable ps o′))
+  tables-same drawn₀ sampled₀ parts₀ w = (
+    w .0 ∙ ap (λ (l : List Point). sets drawn₀ 0 (map rowOf l)) (drawn-up (ps .count)),
+    w .1 ∙ ap (λ (l : List Point). sets sampled₀ 0 (map rowOf l)) (sampled-up (ps .count)),
+    w .2 ∙ ap (sets parts₀ 0) (list-same (partRow ps o) (partRow ps o′) part-row (ps .count) 0),
+  )
+
+-- ---- the arrays as they are before anything is put
+abbrev octets : List (List Float)
+octets = replicate 384 (replicate 8 zeroF)
+
+abbrev quads : List (List Float)
+quads = replicate 768 (replicate 4 zeroF)
+
+-- ---- the segments that `put_segs` leaves
+module _ (ps : Parts) (o : Outlines) {k : ℕ} {rows : List (List Float)} (long : length (o .seg) ≡ 384) (counted : (k ≡ segsCounted ps) × (k ≤ 384))
+    (put : rows ≡ cond (segsFit k (length octets)) (sets octets 0 (segRows o k)) octets) where
+  pub silhouettes : (i : ℕ) → silhouetteAt ps (outlinesIn rows) i ≡ silhouetteAt ps o i
+  silhouettes = put-same ps o octets long counted (counted .1) put
+
+  module _ (few : FewParts ps) where
+    pub segs-within : startOfPart ps (ps .count) ≤ length rows
+    segs-within =
+        let e : length rows ≡ 384 = sym (rows-long rows) ∙ put-long ps o octets long counted (counted .1) put in
+        let t = few .total in
+        omega (arith, e, t)
+
+    -- ---- the mouths that `draw_mouths` leaves
+    abbrev mouths : List Edge
+    mouths = mouthsOf ps (outlinesIn rows)
+
+    room : mouthRoom ps (length quads) (length rows) ≡ true
+    room =
+        let e = cond-no 0 (startOfPart ps (ps .count)) (parts-few ps few) in
+        let t = few .total in
+        let w = segs-within in
+        and-yes _ (ap not (parts-few ps few)) ∙ and-yes _ (le-leb (2 * segsCounted ps) 768 (omega (arith, e, t))) ∙ le-leb (segsCounted ps) (length rows) (omega (arith, e, w))
+
+    module _ {n : ℕ} {l : List (List Float)}
+        (drawn : (n ≡ cond (mouthRoom ps (length quads) (length rows)) (length mouths) 0) × (l ≡ cond (mouthRoom ps (length quads) (length rows)) (sets quads 0 (map mouthRow mouths)) quads)) where
+      mouth-count : n ≡ length mouths
+      mouth-count = drawn .0 ∙ cond-yes _ _ room
+
+      mouths-are : l ≡ sets quads 0 (map mouthRow mouths)
+      mouths-are = drawn .1 ∙ cond-yes _ _ room
+
+      pub mouths-within : n ≤ length l
+      mouths-within =
+          let e = mouth-count in
+          let f = mouths-few ps (outlinesIn rows) few in
+          let k : length l ≡ 768 = ap length mouths-are ∙ length-sets quads 0 (map mouthRow mouths) in
+          omega (arith, e, f, k)
+
+      pub mouths-counted : n ≡ length (take n l)
+      mouths-counted = sym (length-take-le n l mouths-within)
+
+      pub mouths-read : mouthsIn (take n l) ≡ mouths
+      mouths-read =
+          let f = mouths-few ps (outlinesIn rows) few in
+          let m = length-map mouths mouthRow in
+          ap (λ (x : List (List Float)). mouthsIn (take n x)) mouths-are
+          ∙ ap mouthsIn (sets-taken (map mouthRow mouths) quads n (m ∙ sym mouth-count) (omega (arith, f, m)))
+          ∙ mouths-back mouths
