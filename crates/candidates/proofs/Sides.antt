@@ -25,7 +25,7 @@ use Rattle.mechanism.specs.declared.pair.PairGeometry.{PairGeometry}
 use Rattle.mechanism.specs.declared.pair.PairGeometry.the-variants.{Features, CenterBearing}
 use Rattle.mechanism.specs.declared.pair.Surface.{Surface}
 use Rattle.bodies.specs.declared.pose.Pose.{Pose}
-use Rattle.silhouette.proofs.Known.{array-length}
+use Rattle.bodies.proofs.Known.{array-length}
 use Rattle.drawing.specs.Drawing.{sideMaterial}
 use Rattle.sides.specs.Bounds.{DrawnSide}
 use Rattle.sides.specs.Contacts.{centerOfB, pairFeatures, pairFeaturesAt}

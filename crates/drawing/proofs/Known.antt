@@ -13,7 +13,7 @@ use Rattle.mechanism.proofs.pair.Surface as U
 use Rattle.mechanism.proofs.part.SurfaceRef as R
 use Rattle.bodies.proofs.pose.Pose as Q
 use Rattle.bodies.proofs.pose.Placement as L
-use Rattle.silhouette.proofs.Known.{array-length}
+use Rattle.bodies.proofs.Known.{array-length}
 
 pub parts-long : (s : Parts) (vs : List Val) → Is P.the-row s vs → length (s .part) ≡ 32
 parts-long s vs p = array-length E.the-field 32 (s .part) _ (p .1 .1 .1 .0)

@@ -48,12 +48,6 @@ unfolding listIn
 list-length f zero j = refl
 list-length f (suc n) j = ap suc (list-length f n (suc j))
 
--- an element that is there, whatever the default
-pub getD-any : {A : Type 0} (l : List A) (i : ℕ) (d e : A) → i < length l → getD l i d ≡ getD l i e
-getD-any [] i d e h = absurd (omega arith)
-getD-any (x ∷ l) zero d e h = refl
-getD-any (x ∷ l) (suc i) d e h = getD-any l i d e (omega arith)
-
 -- rows of placed points
 pub row-turn : (g : Point → Point) (f : ℕ → Point) (first n i : ℕ) (p : Point) → i < n → p ≡ g (f (first + i))
     → map rowOf (map g (listIn f (n - i) (first + i))) ≡ rowOf p ∷ map rowOf (map g (listIn f (n - (i + 1)) (first + (i + 1))))

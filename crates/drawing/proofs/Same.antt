@@ -1,14 +1,15 @@
 -- Polygons, mouths, samples and material ask of the outlines the silhouettes alone. Assumes nothing.
 use Prim.Native.Nat.{ℕ, _≤_}
 use native.Mathlib.Omega.{arith}
-use mathlib.Core.Path.{_≡_, refl, sym, ap, ap₂, _∙_}
+use mathlib.Core.Path.{_≡_, sym, ap, ap₂, _∙_}
 use mathlib.Core.Bool.{Bool, true, cond}
-use mathlib.Core.List.{List, [], _∷_, _++_, map}
+use mathlib.Core.List.{List, _++_, map}
 use lib.Ieee.{Float}
 use lib.ListN.{length}
 use lib.Seq.{sets}
 use Rattle.laws.specs.Lists.{flat}
 use Rattle.laws.specs.Loops.{filterIn}
+use Rattle.laws.proofs.Lists.{map-each, flat-each}
 use Rattle.geometry.specs.declared.Point.{Point}
 use Rattle.geometry.specs.declared.Seg.{Seg}
 use Rattle.mechanism.specs.Description.{partAt}
@@ -27,15 +28,6 @@ use Rattle.drawing.specs.Samples.{endsOf, mouthsOf, samplesOf, partSampl
 use Rattle.drawing.specs.declared.Chosen.{Chosen}
 use Rattle.drawing.specs.declared.Polygons.{Polygons}
 use Rattle.drawing.proofs.Draws.{has-room, room-from-here}
-
-pub map-each : {A B : Type 0} (f g : A → B) → ((x : A) → f x ≡ g x) → (l : List A) → map f l ≡ map g l
-map-each f g e [] = refl
-map-each {B = B} f g e (x ∷ l) = ap₂ (λ (y : B) (m : List B). y ∷ m) (e x) (map-each f g e l)
-
-flat-each : {A B : Type 0} (f g : A → List B) → ((x : A) → f x ≡ g x) → (l : List A) → flat f l ≡ flat g l
-unfolding flat
-flat-each f g e [] = refl
-flat-each {B = B} f g e (x ∷ l) = ap₂ (λ (y m : List B). y ++ m) (e x) (flat-each f g e l)
 
 module _ (ps : Parts) (o o′ : Outlines) (same : (i : ℕ) → silhouetteAt ps o i ≡ silhouetteAt ps o′ i) where
   polygon-same : (q : Pose) (i : ℕ) → polygonOf ps o q i ≡ polygonOf ps o′ q i

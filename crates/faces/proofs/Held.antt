@@ -13,7 +13,7 @@ use Rattle.laws.proofs.Fill.{map-drop}
 use Rattle.geometry.specs.declared.Point.{Point}
 use Rattle.geometry.specs.declared.signed.Face.{Face}
 use Rattle.mechanism.specs.declared.features.Piece.the-variants.{Segment}
-use Rattle.silhouette.proofs.Known.{array-length}
+use Rattle.bodies.proofs.Known.{array-length}
 use Rattle.sides.specs.declared.PlacedFace.{PlacedFace}
 use Rattle.sides.specs.declared.SideFeatures.{SideFeatures}
 use Rattle.sides.proofs.PlacedFace as F

@@ -48,6 +48,22 @@ list-get f d zero j i h = absurd (omega arith)
 list-get f d (suc k) j zero h = ap f (sym (add-zero j))
 list-get f d (suc k) j (suc i) h = list-get f d k (suc j) i (omega arith) ∙ ap f (suc-add j i ∙ sym (add-suc j i))
 
+-- of a place that there is, what stands past the end is not asked
+pub getD-any : {A : Type 0} (l : List A) (i : ℕ) (d e : A) → i < length l → getD l i d ≡ getD l i e
+getD-any [] i d e h = absurd (omega arith)
+getD-any (x ∷ l) zero d e h = refl
+getD-any (x ∷ l) (suc i) d e h = getD-any l i d e (omega arith)
+
+-- the same at each element
+pub map-each : {A B : Type 0} (f g : A → B) → ((x : A) → f x ≡ g x) → (l : List A) → map f l ≡ map g l
+map-each f g e [] = refl
+map-each {B = B} f g e (x ∷ l) = ap₂ (λ (y : B) (m : List B). y ∷ m) (e x) (map-each f g e l)
+
+pub flat-each : {A B : Type 0} (f g : A → List B) → ((x : A) → f x ≡ g x) → (l : List A) → flat f l ≡ flat g l
+unfolding flat
+flat-each f g e [] = refl
+flat-each {B = B} f g e (x ∷ l) = ap₂ (λ (y m : List B). y ++ m) (e x) (flat-each f g e l)
+
 -- the part of a list from j on, by an index that gives its elements
 pub list-as : {A : Type 0} (f : ℕ → A) (l : List A) (d : A) → ((i : ℕ) → i < length l → f i ≡ getD l i d) → (k j : ℕ) → j + k ≤ length l → listIn f k j ≡ take k (drop j l)
 unfolding listIn

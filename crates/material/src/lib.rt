@@ -7,7 +7,7 @@ ghost use lib.Ieee.{isNan};
 ghost use Rattle.laws.specs.Lists.{listIn, foldl, any};
 ghost use Rattle.ieee.specs.Consts.{zeroF};
 ghost use Rattle.ieee.specs.Num.{minOf, maxOf};
-ghost use Rattle.material.specs.Material.{crossOf, insideOf, holdsOf, squareOf, Serves, squareDepth, depthOf, deepestSquare, pointsOf, between, polyAt, materialOf, edgesOf};
+ghost use Rattle.material.specs.Material.{crossOf, insideOf, holdsOf, squareOf, Serves, squareDepth, depthOf, pointsOf, between, polyAt, materialOf, edgesOf};
 ghost use Rattle.material.specs.Range.{lowOf, highOf, Covers, outsideOf};
 use geometry::Point;
 use ieee::num::choose;
@@ -274,28 +274,4 @@ pub fn deeper_square(
     } else {
         max(d, square_depth(points, starts, solids, all, p, d))
     }
-}
-
-// The largest of `from` and the squares of the depths of the samples.
-pub fn deepest_square(
-    points: &[Spot],
-    starts: &[usize],
-    solids: usize,
-    all: usize,
-    samples: &[Spot],
-    from: f64,
-) -> f64
-    ensures { λ r. ⌜ r ≡ deepestSquare (materialOf (now (points .entry)) (now (starts .entry)) solids all) from (pointsOf (now (samples .entry))) ⌝ }
-{
-    let range = y_range(points);
-    let n = samples.len();
-    let mut d = from;
-    let mut k: usize = 0;
-    while k < n {
-        let v = samples[k];
-        k += 1;
-        let p = Point { x: v[0], y: v[1] };
-        d = deeper_square(points, starts, solids, all, range, p, d);
-    }
-    d
 }

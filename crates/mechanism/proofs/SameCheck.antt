@@ -10,7 +10,7 @@ use lib.Ieee.{Float}
 use lib.ListN.{length}
 use lib.Seq.{sets}
 use Rattle.laws.specs.Loops.{anyIn, firstIn}
-use Rattle.laws.proofs.Choice.{or-yes, cond-yes, cond-no}
+use Rattle.laws.proofs.Choice.{or-yes, cond-no}
 use Rattle.laws.proofs.Sums.{sum-part}
 use Rattle.bodies.specs.Check.{isAccepted, andThen, refusedIf, firstRefused, bodiesChecked}
 use Rattle.bodies.specs.declared.Checked.{Checked}
@@ -23,7 +23,7 @@ use Rattle.mechanism.specs.declared.Mechanism.{Mechanism}
 use Rattle.mechanism.specs.declared.Outlines.{Outlines}
 use Rattle.mechanism.specs.declared.Parts.{Parts}
 use Rattle.mechanism.proofs.Checks.{at-limits}
-use Rattle.mechanism.proofs.SegRows.{same-segs, fits-here}
+use Rattle.mechanism.proofs.SegRows.{put-rows-same}
 
 -- ---- indexes on which two functions agree
 any-range : (p q : ℕ → Bool) (k j : ℕ) → ((i : ℕ) → i < j + k → p i ≡ q i) → anyIn p k j ≡ anyIn q k j
@@ -97,10 +97,6 @@ module _ (m : Mechanism) (o : Outlines) where
 pub check-put : (m : Mechanism) (l : List (List Float)) {n : ℕ} {rows : List (List Float)} {c : Checked} → length (m .outlines .seg) ≡ 384 → length l ≡ 384
     → (n ≡ segsCounted (m .parts)) × (n ≤ 384) → rows ≡ cond (segsFit n (length l)) (sets l 0 (segRows (m .outlines) n)) l
     → c ≡ checkOf (described (m .bodies) (m .parts) rows (m .pairs)) → c ≡ checkOf m
-check-put m l {n} {rows} long room few put e = e ∙ check-same m (outlinesIn rows) (subst (λ (k : ℕ). SameSegs k (outlinesIn rows) (m .outlines)) (few .0) same)
-  where
-    put-here : rows ≡ sets l 0 (segRows (m .outlines) n)
-    put-here = put ∙ cond-yes _ _ (fits-here n (length l) (few .1) (omega arith))
-
-    same : SameSegs n (outlinesIn rows) (m .outlines)
-    same = subst (λ (r : List (List Float)). SameSegs n (outlinesIn r) (m .outlines)) (sym put-here) (same-segs (m .outlines) n (omega arith) l (omega arith))
+check-put m l {n} {rows} long room few put e =
+    let b = few .1 in
+    e ∙ check-same m (outlinesIn rows) (subst (λ (k : ℕ). SameSegs k (outlinesIn rows) (m .outlines)) (few .0) (put-rows-same (m .outlines) l (omega (arith, b, long)) b (omega (arith, b, room)) put))

@@ -1,16 +1,17 @@
 -- Segments as rows of numbers: a row read back is its segment, and rows that are written hold the first segments. Assumes nothing.
-use Prim.Native.Nat.{ℕ, zero, suc, _+_, _-_, _<_, _≤_}
+use Prim.Native.Nat.{ℕ, _+_, _<_, _≤_}
 use native.Mathlib.Omega.{arith}
-use mathlib.Core.Path.{_≡_, refl, sym, ap, _∙_}
+use mathlib.Core.Path.{_≡_, refl, sym, ap, subst, _∙_}
 use mathlib.Core.List.{List, [], _∷_, map}
-use mathlib.Core.Bool.{true}
+use mathlib.Core.Bool.{true, cond}
 use lib.Dec.{leb}
 use lib.Ieee.{Float, eq, ofBits}
 use lib.ListN.{length, getD, take, drop, length-map, drop-of-length-le, List·getD-map}
-use lib.Seq.{sets, length-take-le, getD-take}
+use lib.Seq.{sets, length-sets, length-take-le, getD-take}
 use borrow.Author.Tests.{leb-true, le-leb}
-use Rattle.laws.proofs.Choice.{both, and-yes}
+use Rattle.laws.proofs.Choice.{both, and-yes, cond-yes}
 use Rattle.laws.proofs.Fill.{map-drop}
+use Rattle.laws.proofs.Lists.{getD-any}
 use Rattle.laws.proofs.Writing.{sets-taken}
 use Rattle.geometry.specs.declared.Seg.{Seg}
 use Rattle.geometry.specs.declared.Seg.the-variants.{Line, Arc}
@@ -18,12 +19,6 @@ use Rattle.mechanism.specs.Description.{noSeg, segAt}
 use Rattle.mechanism.specs.Segments.{segRow, segFrom, outlineSegFrom, outlinesIn, rowOfSeg, segRows, segsFit, SameSegs}
 use Rattle.mechanism.specs.declared.Outlines.{Outlines}
 use Rattle.mechanism.specs.declared.part.OutlineSeg.{OutlineSeg}
-
--- of a place that there is, what stands past the end is not asked
-getD-any : {A : Type 0} (l : List A) (i : ℕ) (d e : A) → i < length l → getD l i d ≡ getD l i e
-getD-any [] i d e h = absurd (omega arith)
-getD-any (x ∷ l) zero d e h = refl
-getD-any (x ∷ l) (suc i) d e h = getD-any l i d e (omega arith)
 
 -- ---- a row
 pub seg-back : (s : Seg) → segFrom (segRow s) ≡ s
@@ -79,13 +74,18 @@ module _ (o : Outlines) (n : ℕ) (long : n ≤ length (o .seg)) where
           row-at rows k ∙ ap segFrom (sym (getD-take n rows k [] b) ∙ ap (λ (m : List (List Float)). getD m k []) taken ∙ getD-any (segRows o n) k [] (rowOfSeg noSeg) (omega arith) ∙ List·getD-map rowOfSeg (take n (o .seg)) k noSeg)
           ∙ seg-back (getD (take n (o .seg)) k noSeg .seg) ∙ ap (λ (x : OutlineSeg). x .seg) (getD-take n (o .seg) k noSeg b)
 
-pub fewer-segs : {n m : ℕ} {o o′ : Outlines} → m ≤ n → SameSegs n o o′ → SameSegs m o o′
-fewer-segs h s = record { seg = λ k b. s .seg k (omega (arith, h, b)) }
+-- rows into which the first n segments were put
+module _ (o : Outlines) (l : List (List Float)) {n : ℕ} {rows : List (List Float)} (long : n ≤ length (o .seg)) (few : n ≤ 384) (room : n ≤ length l) (put : rows ≡ cond (segsFit n (length l)) (sets l 0 (segRows o n)) l) where
+  put-here : rows ≡ sets l 0 (segRows o n)
+  put-here = put ∙ cond-yes _ _ (and-yes _ (le-leb n 384 few) ∙ le-leb n (length l) room)
+
+  pub put-rows-long : length rows ≡ length l
+  put-rows-long = ap length put-here ∙ length-sets l 0 (segRows o n)
+
+  pub put-rows-same : SameSegs n (outlinesIn rows) o
+  put-rows-same = subst (λ (r : List (List Float)). SameSegs n (outlinesIn r) o) (sym put-here) (same-segs o n long l room)
 
 pub fits : (n room : ℕ) → segsFit n room ≡ true → (n ≤ 384) × (n ≤ room)
 fits n room e =
     let b = both (leb n 384) (leb n room) e in
     (leb-true n 384 (b .0), leb-true n room (b .1))
-
-pub fits-here : (n room : ℕ) → n ≤ 384 → n ≤ room → segsFit n room ≡ true
-fits-here n room h k = and-yes _ (le-leb n 384 h) ∙ le-leb n room k

@@ -1,22 +1,21 @@
 -- Overlaps ask of the outlines the silhouettes alone, and rows into which the segments were put give the same. Assumes nothing.
 use Prim.Native.Nat.{ℕ, _*_, _≤_}
 use native.Mathlib.Omega.{arith}
-use mathlib.Core.Path.{_≡_, refl, sym, ap, ap₂, subst, _∙_}
+use mathlib.Core.Path.{_≡_, refl, ap, ap₂, subst, _∙_}
 use mathlib.Core.Bool.{Bool, true, false, cond}
-use mathlib.Core.List.{List, [], _∷_, map}
+use mathlib.Core.List.{List, [], _∷_}
 use lib.Dec.{ltb}
 use lib.Ieee.{Float}
 use lib.ListN.{length}
 use lib.Seq.{sets, length-sets}
 use Rattle.laws.specs.Lists.{foldl}
-use Rattle.laws.proofs.Choice.{cond-yes}
 use Rattle.ieee.specs.Consts.{zeroF}
 use Rattle.ieee.specs.Num.{maxOf}
 use Rattle.geometry.specs.declared.Point.{Point}
-use Rattle.mechanism.specs.Check.{checkOf, thenCalled, answerOf, pairDrawn}
+use Rattle.mechanism.specs.Check.{thenCalled, answerOf, pairDrawn}
 use Rattle.mechanism.specs.Description.{pairAt}
 use Rattle.mechanism.specs.Segments.{outlinesIn, described, segRows, segsFit, segsCounted, SameSegs}
-use Rattle.mechanism.proofs.SegRows.{same-segs, fits-here}
+use Rattle.mechanism.proofs.SegRows.{put-rows-same}
 use Rattle.mechanism.proofs.SameCheck.{check-same}
 use Rattle.mechanism.specs.declared.FloatAnswer.{FloatAnswer}
 use Rattle.mechanism.specs.declared.Mechanism.{Mechanism}
@@ -31,10 +30,9 @@ use Rattle.bodies.specs.declared.Checked.{Checked}
 use Rattle.bodies.specs.declared.pose.Pose.{Pose}
 use Rattle.silhouette.specs.Silhouette.{silhouetteAt}
 use Rattle.silhouette.proofs.BySegment.{put-same}
-use Rattle.sides.specs.Features.{centerAt}
 use Rattle.sides.proofs.SameCenter.{center-same}
 use Rattle.material.specs.Material.{Edge, Material, depthOf, deepestOf}
-use Rattle.drawing.specs.Drawing.{bodyOfSide, sideMaterial, polygonOf, polygonsOf}
+use Rattle.drawing.specs.Drawing.{bodyOfSide}
 use Rattle.drawing.specs.Samples.{mouthsOf, partSamples}
 use Rattle.drawing.proofs.Same.{polygons-same, listed-same, mouths-same, samples-same, side-same}
 use Rattle.overlap.specs.Overlap.{ownersOnce, sunkOf, ownerIn, overlapBy, pairOverlap, pairOverlapAt, pairOverlapAnswer, ownersOf, isIn, cutOfAny, listMaterial, partsOverlap}
@@ -100,8 +98,7 @@ pub answer-put : (m : Mechanism) (l : List (List Float)) {n : ℕ} {rows : List 
 unfolding pairOverlapAnswer
 answer-put m l {n} {rows} long counted room put q i e =
     let b = counted .1 in
-    let here : rows ≡ sets l 0 (segRows (m .outlines) n) = put ∙ cond-yes _ _ (fits-here n (length l) b room) in
-    let segs : SameSegs n (outlinesIn rows) (m .outlines) = subst (λ (r : List (List Float)). SameSegs n (outlinesIn r) (m .outlines)) (sym here) (same-segs (m .outlines) n (omega (arith, b, long)) l room) in
+    let segs = put-rows-same (m .outlines) l (omega (arith, b, long)) b room put in
     e ∙ ap₂ (λ (c : Checked) (x : Float). answerOf (thenCalled c (poseFits (m .bodies) q) (ltb i (m .pairs .count)) true) x)
     (check-same m (outlinesIn rows) (subst (λ (k : ℕ). SameSegs k (outlinesIn rows) (m .outlines)) (counted .0) segs))
     (overlap-same (m .parts) (outlinesIn rows) (m .outlines) (put-same (m .parts) (m .outlines) l long counted room put) q (pairAt (m .pairs) i))

@@ -12,7 +12,7 @@ use mir.Val.{Val}
 use denote.Laws.{Is}
 use Rattle.laws.specs.Lists.{foldl}
 use Rattle.laws.proofs.Lists.{foldl-append}
-use Rattle.silhouette.proofs.Known.{array-length}
+use Rattle.bodies.proofs.Known.{array-length}
 use Rattle.geometry.specs.declared.Point.{Point}
 use Rattle.bodies.specs.Pose.{columnsOf, columnsIn}
 use Rattle.bodies.specs.declared.Bodies.{Bodies}

@@ -1,15 +1,16 @@
 -- What the lines of a reading are written with: room for a refusal, lines one behind the other, and what is read. Assumes nothing.
-use Prim.Native.Nat.{ℕ, zero, suc, _+_, _*_, _-_, _<_, _≤_}
+use Prim.Native.Nat.{ℕ, suc, _+_, _*_, _-_, _<_, _≤_}
 use native.Mathlib.Omega.{arith}
 use native.Mathlib.Nat.{suc-mul, mul-le-mul-right}
 use mathlib.Core.Path.{_≡_, refl, sym, ap, subst, subst₂, _∙_}
-use mathlib.Core.List.{List, [], _∷_, _++_, map}
+use mathlib.Core.List.{List, [], _++_, map}
 use lib.ListN.{length, getD, take, drop, replicate, length-append}
 use lib.Seq.{sets}
 use lib.Ieee.{Float}
 use mir.Val.{Val}
 use denote.Laws.{Is}
 use Rattle.laws.specs.Loops.{joinIn, Writing}
+use Rattle.laws.proofs.Lists.{getD-any}
 use Rattle.laws.proofs.Loops.{join-turn, join-none, join-done}
 use Rattle.laws.proofs.Writing.{starts, goes-on, appends, ends, ends-count}
 use Rattle.ieee.specs.Consts.{zeroF}
@@ -97,12 +98,6 @@ columns-part l f c = let e : f + c - f ≡ c = omega arith in ap (λ (k : ℕ). 
 -- ---- a reading tells of sixteen pairs
 pub reading-long : (r : Reading) (vs : List Val) → Is R.the-row r vs → length (r .pair) ≡ 16
 reading-long r vs p = array-length P.the-field 16 (r .pair) _ (p .1 .1 .1 .1 .1 .0)
-
--- what stands past the end is not read
-getD-any : {A : Type 0} (l : List A) (i : ℕ) (d e : A) → i < length l → getD l i d ≡ getD l i e
-getD-any [] i d e h = absurd (omega arith)
-getD-any (x ∷ l) zero d e h = refl
-getD-any (x ∷ l) (suc i) d e h = getD-any l i d e (omega arith)
 
 pub other-same : (r : Reading) (i : ℕ) (d : PairReading) → length (r .pair) ≡ 16 → i < r .pairs → r .pairs ≤ 16
     → otherLines i (readingAt r i) ≡ otherLines i (getD (r .pair) i d)

@@ -10,7 +10,7 @@ use Rattle.mechanism.proofs.Pairs as P
 use Rattle.mechanism.proofs.pair.ContactPair as C
 use Rattle.mechanism.proofs.pair.Surface as U
 use Rattle.mechanism.proofs.part.SurfaceRef as R
-use Rattle.silhouette.proofs.Known.{array-length}
+use Rattle.bodies.proofs.Known.{array-length}
 use Rattle.sides.specs.declared.Traversals.{Traversals}
 use Rattle.sides.proofs.Traversal as T
 use Rattle.sides.proofs.Traversals as S

@@ -1,25 +1,23 @@
 -- The centre of a side asks of the outlines the silhouettes of its parts alone, and rows into which they were put give the same. Assumes nothing.
 use Prim.Native.Nat.{ℕ, _-_, _<_, _≤_}
 use native.Mathlib.Omega.{arith}
-use mathlib.Core.Path.{_≡_, sym, ap, ap₂, subst, _∙_}
+use mathlib.Core.Path.{_≡_, sym, ap, ap₂, _∙_}
 use mathlib.Core.Bool.{Bool, cond}
 use mathlib.Core.List.{List}
 use lib.Ieee.{Float}
 use lib.ListN.{length}
-use lib.Seq.{sets, length-sets}
-use Rattle.laws.proofs.Choice.{cond-yes, cond-no}
+use lib.Seq.{sets}
+use Rattle.laws.proofs.Choice.{cond-yes}
 use Rattle.geometry.specs.declared.Point.{Point}
 use Rattle.geometry.specs.declared.Seg.{Seg}
 use Rattle.mechanism.specs.Check.{FewParts}
 use Rattle.mechanism.specs.Description.{partAt, startOfPart}
-use Rattle.mechanism.specs.Segments.{outlinesIn, segRows, segsFit, segsCounted, SameSegs}
+use Rattle.mechanism.specs.Segments.{outlinesIn, segRows, segsFit, segsCounted}
 use Rattle.mechanism.specs.declared.Outlines.{Outlines}
 use Rattle.mechanism.specs.declared.Parts.{Parts}
 use Rattle.mechanism.specs.declared.pair.Surface.{Surface}
-use Rattle.mechanism.proofs.Checks.{parts-few}
-use Rattle.mechanism.proofs.SegRows.{rows-long, same-segs, fits-here}
 use Rattle.silhouette.specs.Silhouette.{axisOf, isPart, outlineOf, silhouetteFrom, silhouetteAt}
-use Rattle.silhouette.proofs.BySegment.{silhouette-same}
+use Rattle.silhouette.proofs.BySegment.{put-same}
 use Rattle.silhouette.proofs.Lengths.{is-part, silhouette-at-part}
 use Rattle.sides.specs.Bounds.{DrawnSide}
 use Rattle.sides.specs.Features.{firstRange, lastRange, centerOf, centerAt}
@@ -55,20 +53,4 @@ module _ (ps : Parts) (o : Outlines) (u : Surface) (wanted : Bool) (few : FewPar
   pub center-put : (l : List (List Float)) {n : ℕ} {rows : List (List Float)} {c : Point} → length (o .seg) ≡ 384 → length l ≡ 384
       → (n ≡ segsCounted ps) × (n ≤ 384) → rows ≡ cond (segsFit n (length l)) (sets l 0 (segRows o n)) l
       → c ≡ centerAt ps (outlinesIn rows) u wanted → c ≡ centerAt ps o u wanted
-  center-put l {n} {rows} long room counted put e = e ∙ center-same ps (outlinesIn rows) o (silhouette-same ps (outlinesIn rows) o same within (omega (arith, long, few .total))) u wanted
-    where
-      total : n ≡ startOfPart ps (ps .count)
-      total = counted .0 ∙ cond-no _ _ (parts-few ps few)
-
-      put-here : rows ≡ sets l 0 (segRows o n)
-      put-here = put ∙ cond-yes _ _ (fits-here n (length l) (counted .1) (omega arith))
-
-      same : SameSegs (startOfPart ps (ps .count)) (outlinesIn rows) o
-      same = subst (λ (k : ℕ). SameSegs k (outlinesIn rows) o) total (subst (λ (r : List (List Float)). SameSegs n (outlinesIn r) o) (sym put-here) (same-segs o n (omega arith) l (omega arith)))
-
-      within : startOfPart ps (ps .count) ≤ length (outlinesIn rows .seg)
-      within =
-          let a = rows-long rows in
-          let b = ap length put-here ∙ length-sets l 0 (segRows o n) in
-          let t = few .total in
-          omega arith
+  center-put l {rows = rows} long room counted put e = let b = counted .1 in e ∙ center-same ps (outlinesIn rows) o (put-same ps o l long counted (omega (arith, b, room)) put) u wanted

@@ -8,16 +8,17 @@ use mathlib.Core.List.{List, [], _∷_, _++_, map, reverse}
 use lib.Dec.{eqb, ltb}
 use lib.Ieee.{Float}
 use lib.ListN.{length, getD, take, drop, set, length-map, length-set, length-drop, length-reverse, List·getD-map, List·getD-append, List·getD-eq-default}
-use lib.Seq.{sets, length-sets, drop-cons, getD-take, getD-drop, getD-set-same, getD-set-other, getD-append-add, length-take-le, take-all, take-length}
+use lib.Seq.{sets, drop-cons, getD-take, getD-drop, getD-set-same, getD-set-other, getD-append-add, length-take-le, take-all, take-length}
 use borrow.Author.Tests.{eqb-true, eqb-false, eq-eqb, ne-eqb, ltb-true, ltb-false, le-leb, lt-leb}
 use Rattle.laws.proofs.Choice.{and-no, cond-yes, cond-no}
 use Rattle.laws.proofs.Fill.{reverse-take}
+use Rattle.laws.proofs.Lists.{getD-any}
 use Rattle.laws.proofs.Sums.{sum-part}
 use Rattle.geometry.specs.declared.Seg.{Seg}
 use Rattle.mechanism.specs.Description.{noSeg, segAt, partAt, segsOf, startOfPart, turnedLength, silhouetteLength}
 use Rattle.mechanism.specs.Check.{partsOver}
 use Rattle.mechanism.specs.Segments.{outlinesIn, segRows, segsFit, segsCounted, SameSegs}
-use Rattle.mechanism.proofs.SegRows.{rows-long, same-segs, fits-here}
+use Rattle.mechanism.proofs.SegRows.{rows-long, put-rows-long, put-rows-same}
 use Rattle.mechanism.specs.declared.Outlines.{Outlines}
 use Rattle.mechanism.specs.declared.Parts.{Parts}
 use Rattle.mechanism.specs.declared.part.OutlineSeg.{OutlineSeg}
@@ -29,7 +30,7 @@ use Rattle.silhouette.specs.declared.MaybeAxis.the-variants.{SomeAxis, N
 use Rattle.silhouette.specs.Silhouette.{axisOf, segOf, boxed, noLine, startIn, endIn, changed, chainOf, turnedSeg, mirrored, revolvedOf, silhouetteOf, outlineFrom, silhouetteFrom, silhouetteCount, isPart, outlineOf, silhouetteAt}
 use Rattle.silhouette.specs.Rows.{plainAt, chainAt, turnedAt}
 use Rattle.silhouette.proofs.Lengths.{chain-length, silhouette-length, part-of}
-use Rattle.silhouette.proofs.Walks.{getD-any, about-none, about-few, about-some}
+use Rattle.silhouette.proofs.Walks.{about-none, about-few, about-some}
 
 -- ---- the outline
 module _ (o : Outlines) (first n : ℕ) where
@@ -181,14 +182,11 @@ module _ (ps : Parts) (o o′ : Outlines) (s : SameSegs (startOfPart ps (ps .cou
 -- rows into which the counted segments were put give the same silhouettes
 module _ (ps : Parts) (o : Outlines) (l : List (List Float)) {n : ℕ} {rows : List (List Float)} (long : length (o .seg) ≡ 384) (counted : (n ≡ segsCounted ps) × (n ≤ 384)) (room : n ≤ length l)
     (put : rows ≡ cond (segsFit n (length l)) (sets l 0 (segRows o n)) l) where
-  put-here : rows ≡ sets l 0 (segRows o n)
-  put-here = put ∙ cond-yes _ _ (fits-here n (length l) (counted .1) room)
-
   pub put-long : length (outlinesIn rows .seg) ≡ length l
-  put-long = rows-long rows ∙ ap length put-here ∙ length-sets l 0 (segRows o n)
+  put-long = let b = counted .1 in rows-long rows ∙ put-rows-long o l (omega (arith, b, long)) b room put
 
   put-segs-same : SameSegs n (outlinesIn rows) o
-  put-segs-same = subst (λ (r : List (List Float)). SameSegs n (outlinesIn r) o) (sym put-here) (same-segs o n (let b = counted .1 in omega (arith, b, long)) l room)
+  put-segs-same = let b = counted .1 in put-rows-same o l (omega (arith, b, long)) b room put
 
   pub put-same : (i : ℕ) → silhouetteAt ps (outlinesIn rows) i ≡ silhouetteAt ps o i
   unfolding silhouetteAt

@@ -1,5 +1,5 @@
 -- Walks of an outline, forwards and backwards, its two ends changed, and lists of segments in arrays. Assumes nothing.
-use Prim.Native.Nat.{ℕ, zero, suc, _+_, _-_, _<_, _≤_}
+use Prim.Native.Nat.{ℕ, suc, _+_, _-_, _<_, _≤_}
 use native.Mathlib.Omega.{arith}
 use native.Mathlib.Numerals.{add-one}
 use native.Mathlib.Nat.{zero-add}
@@ -14,6 +14,7 @@ use Rattle.laws.specs.Fill.{filled}
 use Rattle.laws.specs.Loops.{anyIn, Writing}
 use Rattle.laws.proofs.Choice.{and-yes, and-no, cond-yes, cond-no}
 use Rattle.laws.proofs.Fill.{map-drop, reverse-take, map-set, map-take, map-back, take-filled}
+use Rattle.laws.proofs.Lists.{getD-any}
 use Rattle.laws.proofs.Writing.{starts, ends, ends-count, sets-append}
 use Rattle.geometry.specs.declared.Seg.{Seg}
 use Rattle.mechanism.specs.Description.{noSeg}
@@ -27,12 +28,6 @@ use Rattle.silhouette.specs.Silhouette.{axisOf, segOf, boxed, noLine, st
 -- ---- the segments that the first n places of an array hold
 abbrev pub held : ℕ → List OutlineSeg → List Seg
 held n segs = map segOf (take n segs)
-
--- of a place that there is, what stands past the end is not asked
-pub getD-any : {A : Type 0} (l : List A) (i : ℕ) (d e : A) → i < length l → getD l i d ≡ getD l i e
-getD-any [] i d e h = absurd (omega arith)
-getD-any (x ∷ l) zero d e h = refl
-getD-any (x ∷ l) (suc i) d e h = getD-any l i d e (omega arith)
 
 pub held-long : (n : ℕ) (segs : List OutlineSeg) → n ≤ length segs → length (held n segs) ≡ n
 held-long n segs h = length-map (take n segs) segOf ∙ length-take-le n segs h

@@ -14,7 +14,7 @@ use Rattle.mechanism.specs.declared.Outlines.{Outlines}
 use Rattle.mechanism.specs.declared.Parts.{Parts}
 use Rattle.mechanism.specs.declared.pair.ContactPair.{ContactPair}
 use Rattle.mechanism.specs.declared.pair.Surface.{Surface}
-use Rattle.silhouette.proofs.Known.{array-length}
+use Rattle.bodies.proofs.Known.{array-length}
 use Rattle.sides.specs.Contacts.{centerOfB, pairFeatures, pairFeaturesAt}
 use Rattle.sides.specs.Features.{noFace, noDisc, traversalsOf, facesOf, discsOf, sideOf}
 use Rattle.sides.specs.declared.SideFeatures.{SideFeatures}

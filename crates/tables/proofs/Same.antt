@@ -1,16 +1,16 @@
 -- The tables of points and parts ask of the outlines the silhouettes alone: they are the same of rows into which the segments were put. Assumes nothing.
 use Prim.Native.Nat.{ℕ, _*_, _≤_}
 use native.Mathlib.Omega.{arith}
-use mathlib.Core.Path.{_≡_, refl, sym, ap, ap₂, _∙_}
+use mathlib.Core.Path.{_≡_, sym, ap, ap₂, _∙_}
 use mathlib.Core.Bool.{true, not, cond}
-use mathlib.Core.List.{List, [], _∷_, _++_, map}
+use mathlib.Core.List.{List, [], _∷_, map}
 use lib.Ieee.{Float}
 use lib.ListN.{length, take, replicate, length-map}
 use lib.Seq.{sets, length-sets, length-take-le}
 use borrow.Author.Tests.{le-leb}
 use Rattle.laws.specs.Lists.{flat}
 use Rattle.laws.proofs.Choice.{and-yes, cond-yes, cond-no}
-use Rattle.laws.proofs.Lists.{list-same}
+use Rattle.laws.proofs.Lists.{list-same, flat-each}
 use Rattle.laws.proofs.Writing.{sets-taken}
 use Rattle.ieee.specs.Consts.{zeroF}
 use Rattle.geometry.specs.declared.Point.{Point}
@@ -30,11 +30,6 @@ use Rattle.drawing.specs.Samples.{mouthsOf, samplesOf, mouthRow, mouthsIn, mout
 use Rattle.drawing.proofs.Laid.{mouths-back, mouths-few}
 use Rattle.drawing.proofs.Same.{mouths-same}
 use Rattle.tables.specs.Tables.{upTo, drawnOf, sampledOf, drawnUpTo, sampledUpTo, partRow, drawnTable, sampledTable, partTable}
-
-flat-each : {A B : Type 0} (f g : A → List B) → ((x : A) → f x ≡ g x) → (l : List A) → flat f l ≡ flat g l
-unfolding flat
-flat-each f g e [] = refl
-flat-each {B = B} f g e (x ∷ l) = ap₂ (λ (y m : List B). y ++ m) (e x) (flat-each f g e l)
 
 module _ (ps : Parts) (o o′ : Outlines) (same : (i : ℕ) → silhouetteAt ps o i ≡ silhouetteAt ps o′ i) where
   drawn-of : (i : ℕ) → drawnOf ps o i ≡ drawnOf ps o′ i

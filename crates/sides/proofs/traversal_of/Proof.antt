@@ -1,7 +1,7 @@
 use mathlib.Core.Path.{ap, _∙_}
 use borrow.Author.Needs.{needs}
 use Rattle.mechanism.specs.Description.{partAt}
-use Rattle.silhouette.proofs.Known.{outlines-long}
+use Rattle.mechanism.proofs.Known.{outlines-long}
 use Rattle.sides.specs.Features as F
 use Rattle.sides.proofs.Silhouettes.{read-within, read-few, read-segs}
 use Rattle.sides.proofs.traversal_of.Statement.{statement}

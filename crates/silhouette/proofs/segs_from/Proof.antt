@@ -9,7 +9,7 @@ use Rattle.laws.specs.Loops.{Writing}
 use Rattle.laws.proofs.Writing.{puts}
 use Rattle.mechanism.specs.Description.{noSeg}
 use Rattle.silhouette.specs.Silhouette.{boxed, noLine}
-use Rattle.silhouette.proofs.Known.{outlines-long}
+use Rattle.mechanism.proofs.Known.{outlines-long}
 use Rattle.silhouette.proofs.Walks.{drop-on, up-done, starts-blank, outline-done}
 use Rattle.silhouette.proofs.segs_from.Statement.{statement}
 use Rattle.silhouette.proofs.segs_from.Tie as tie

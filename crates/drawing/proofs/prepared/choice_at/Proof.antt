@@ -2,7 +2,7 @@ use mathlib.Core.Path.{sym, ap}
 use mathlib.Core.List.{List}
 use Prim.Native.Nat.{ℕ}
 use lib.ListN.{List·getD-eq-default}
-use Rattle.drawing.proofs.Lays.{getD-any}
+use Rattle.laws.proofs.Lists.{getD-any}
 use borrow.Author.Needs.{needs}
 use Rattle.drawing.proofs.prepared.choice_at.Statement.{statement}
 use Rattle.drawing.proofs.prepared.choice_at.Tie as tie
