@@ -63,7 +63,7 @@ module _ (m : Mechanism) (fits known room : Bool) (e : callChecked m fits known 
 
 -- ---- the pairs of an accepted description are drawn
 module _ (m : Mechanism) (e : checkOf m ≡ Accepted) (q : Pose) where
-  pub pair-overlap-is : (i : ℕ) → i < m .pairs .count → pairOverlapAt (m .parts) (m .outlines) q (pairAt (m .pairs) i) ≡ pairOverlap (m .parts) (m .outlines) q (pairAt (m .pairs) i)
+  pair-overlap-is : (i : ℕ) → i < m .pairs .count → pairOverlapAt (m .parts) (m .outlines) q (pairAt (m .pairs) i) ≡ pairOverlap (m .parts) (m .outlines) q (pairAt (m .pairs) i)
   unfolding pairOverlapAt
   pair-overlap-is i h = cond-yes _ _ (accepted-pair-drawn m e i h)
 
@@ -98,19 +98,27 @@ module _ (m : Mechanism) (q : Pose) {c : Checked} {fits : Bool} (f : fits ≡ po
     pair-refused r = refused-as (ltb i (m .pairs .count)) _ e r
 
     module _ (r : c ≡ Accepted) where
+      description-taken : checkOf m ≡ Accepted
+      description-taken = call-accepted m fits (ltb i (m .pairs .count)) true (sym e ∙ r)
+
       there : i < m .pairs .count
       there = ltb-true i (m .pairs .count) (call-known m fits (ltb i (m .pairs .count)) true (sym e ∙ r))
 
       pub pair-there : i < 16
       pair-there =
           let h = there in
-          let n = accepted-few m (call-accepted m fits (ltb i (m .pairs .count)) true (sym e ∙ r)) .pairs .count in
+          let n = accepted-few m description-taken .pairs .count in
           omega (arith, h, n)
 
-      pub pair-answered : {d : Float} {p : ContactPair} → d ≡ pairOverlapAt (m .parts) (m .outlines) q p → p ≡ pairAt (m .pairs) i → IsFloat d ≡ pairOverlapAnswer m q i
+      pub pair-few : FewParts (m .parts)
+      pair-few = accepted-few m description-taken .parts
+
+      pub pair-is-drawn : {p : ContactPair} → p ≡ pairAt (m .pairs) i → pairDrawn (m .parts) p ≡ true
+      pair-is-drawn k = ap (pairDrawn (m .parts)) k ∙ accepted-pair-drawn m description-taken i there
+
+      pub pair-answered : {d : Float} {p : ContactPair} → d ≡ pairOverlap (m .parts) (m .outlines) q p → p ≡ pairAt (m .pairs) i → IsFloat d ≡ pairOverlapAnswer m q i
       unfolding pairOverlapAnswer
-      pair-answered h k = answered-as (ltb i (m .pairs .count)) _ e r
-          (h ∙ ap (pairOverlapAt (m .parts) (m .outlines) q) k ∙ pair-overlap-is m (call-accepted m fits (ltb i (m .pairs .count)) true (sym e ∙ r)) q i there)
+      pair-answered h k = answered-as (ltb i (m .pairs .count)) _ e r (h ∙ ap (pairOverlap (m .parts) (m .outlines) q) k)
 
   -- overlap
   module _ (e : c ≡ callChecked m fits true true) where

@@ -373,7 +373,7 @@ fn pair_answer(
         Checked::Refused(p) => FloatAnswer::NoFloat(p),
         Checked::Accepted => {
             let p = pair_at(pairs, pair);
-            FloatAnswer::IsFloat(overlap_over(points, mouths, ps, segs, q, p))
+            FloatAnswer::IsFloat(overlap_of_drawn(points, mouths, ps, segs, q, p))
         }
     }
 }
