@@ -9,9 +9,11 @@ use mathlib.Core.List.{List, [], _∷_, _++_, map, map-append}
 use lib.Dec.{eqb}
 use lib.Ieee.{Float}
 use lib.ListN.{length, take, drop, getD, length-map, length-append}
-use lib.Seq.{sets, take-at, drop-at, take-append-seam, drop-append-seam, take-length, take-suc, split-at}
+use lib.Seq.{sets, length-sets, length-take-le, take-at, drop-at, take-append-seam, drop-append-seam, take-length, take-suc, split-at}
+use borrow.Author.Tests.{le-leb}
 use Rattle.laws.specs.Lists.{listIn, flat}
 use Rattle.laws.specs.Loops.{filterIn}
+use Rattle.laws.proofs.Choice.{and-yes, cond-yes, cond-no}
 use Rattle.laws.proofs.Fill.{map-back}
 use Rattle.laws.proofs.Lists.{list-get, list-as, flat-append, filter-same, filter-count, filter-within}
 use Rattle.laws.proofs.Sums.{sum-scaled}
@@ -19,6 +21,8 @@ use Rattle.laws.proofs.Writing.{sets-taken}
 use Rattle.geometry.specs.declared.Point.{Point}
 use Rattle.mechanism.specs.Check.{FewParts}
 use Rattle.mechanism.specs.Description.{partAt, segsOf, startOfPart}
+use Rattle.mechanism.specs.Segments.{outlinesIn, segsCounted}
+use Rattle.mechanism.proofs.Checks.{parts-few}
 use Rattle.mechanism.specs.declared.Outlines.{Outlines}
 use Rattle.mechanism.specs.declared.Parts.{Parts}
 use Rattle.mechanism.specs.declared.pair.Surface.{Surface}
@@ -26,7 +30,7 @@ use Rattle.bodies.specs.declared.pose.Pose.{Pose}
 use Rattle.silhouette.specs.Silhouette.{inTheSection, silhouetteAt}
 use Rattle.material.specs.Material.{Edge, Material, pointOf, pointsOf, between, polyAt, materialOf}
 use Rattle.drawing.specs.Drawing.{isCut, isReadCut, polygonOf, onSide, solidIn, cutIn, sideMaterial, chosenAs, solidsOf, cutsOf, chosenMaterial, whatIs, sideChosen, rowOf, same, rowsOf, endsFrom, startsOf}
-use Rattle.drawing.specs.Samples.{endsOf, mouthsOf, mouthRow, mouthIn}
+use Rattle.drawing.specs.Samples.{endsOf, mouthsOf, mouthRow, mouthIn, mouthsIn, mouthRoom}
 use Rattle.drawing.specs.declared.Chosen.{Chosen}
 use Rattle.drawing.proofs.Segments.{silhouette-short}
 use Rattle.drawing.proofs.Draws.{cond-below, polygons-short, chosen-segs, chosen-count, ends-length, flat-first, rows-append}
@@ -36,7 +40,7 @@ use Rattle.drawing.proofs.Sides.{whatOf}
 pub points-back : (l : List Point) → pointsOf (map rowOf l) ≡ l
 points-back l = map-back pointOf rowOf (λ p. refl) l
 
-pub mouths-back : (l : List Edge) → map mouthIn (map mouthRow l) ≡ l
+mouths-back : (l : List Edge) → map mouthIn (map mouthRow l) ≡ l
 mouths-back l = map-back mouthIn mouthRow (λ e. refl) l
 
 -- ---- where polygon k starts: behind the points of those before it
@@ -190,7 +194,7 @@ drawn-material ps o q c l s few a b =
     (ap (λ (k : ℕ). take (k + 1) (sets s 0 (startsOf (solids ++ cuts)))) (sym n) ∙ taken-starts (solids ++ cuts) s (omega (arith, b, e)))
     ∙ laid solids cuts
 
-pub mouths-most : (ps : Parts) (o : Outlines) → length (mouthsOf ps o) ≤ 2 * startOfPart ps (ps .count)
+mouths-most : (ps : Parts) (o : Outlines) → length (mouthsOf ps o) ≤ 2 * startOfPart ps (ps .count)
 unfolding mouthsOf
 mouths-most ps o =
     let p : ℕ → Bool = λ i. isReadCut (partAt ps i) in
@@ -201,8 +205,44 @@ mouths-most ps o =
     short : (i : ℕ) → length (map endsOf (silhouetteAt ps o i)) ≤ 2 * segsOf ps i
     short i = let l = length-map (silhouetteAt ps o i) endsOf in let h = silhouette-short ps o i in omega (arith, l, h)
 
-pub mouths-few : (ps : Parts) (o : Outlines) → FewParts ps → length (mouthsOf ps o) ≤ 768
-mouths-few ps o few =
-    let m = mouths-most ps o in
-    let t = few .total in
-    omega (arith, m, t)
+-- parts that pass no limit have as many segments as are counted
+pub counted-few : (ps : Parts) → FewParts ps → segsCounted ps ≡ startOfPart ps (ps .count)
+counted-few ps few = cond-no _ _ (parts-few ps few)
+
+-- what `draw_mouths` leaves in an array that has room
+module _ (ps : Parts) (rows : List (List Float)) (few : FewParts ps) (there : startOfPart ps (ps .count) ≤ length rows) (l : List (List Float)) (long : 2 * startOfPart ps (ps .count) ≤ length l) {n : ℕ} {l′ : List (List Float)}
+    (drawn : (n ≡ cond (mouthRoom ps (length l) (length rows)) (length (mouthsOf ps (outlinesIn rows))) 0) × (l′ ≡ cond (mouthRoom ps (length l) (length rows)) (sets l 0 (map mouthRow (mouthsOf ps (outlinesIn rows)))) l)) where
+  abbrev mouths : List Edge
+  mouths = mouthsOf ps (outlinesIn rows)
+
+  mouth-room : mouthRoom ps (length l) (length rows) ≡ true
+  mouth-room =
+      let k = counted-few ps few in
+      and-yes _ (ap not (parts-few ps few)) ∙ and-yes _ (le-leb (2 * segsCounted ps) (length l) (omega (arith, k, long))) ∙ le-leb (segsCounted ps) (length rows) (omega (arith, k, there))
+
+  mouth-count : n ≡ length mouths
+  mouth-count = drawn .0 ∙ cond-yes _ _ mouth-room
+
+  mouths-are : l′ ≡ sets l 0 (map mouthRow mouths)
+  mouths-are = drawn .1 ∙ cond-yes _ _ mouth-room
+
+  pub mouths-long : length l′ ≡ length l
+  mouths-long = ap length mouths-are ∙ length-sets l 0 (map mouthRow mouths)
+
+  pub mouths-within : n ≤ length l′
+  mouths-within =
+      let e = mouth-count in
+      let f = mouths-most ps (outlinesIn rows) in
+      let k = mouths-long in
+      omega (arith, e, f, k, long)
+
+  pub mouths-counted : n ≡ length (take n l′)
+  mouths-counted = sym (length-take-le n l′ mouths-within)
+
+  pub mouths-read : mouthsIn (take n l′) ≡ mouths
+  mouths-read =
+      let f = mouths-most ps (outlinesIn rows) in
+      let m = length-map mouths mouthRow in
+      ap (λ (x : List (List Float)). mouthsIn (take n x)) mouths-are
+      ∙ ap mouthsIn (sets-taken (map mouthRow mouths) l n (m ∙ sym mouth-count) (omega (arith, f, m, long)))
+      ∙ mouths-back mouths

@@ -31,6 +31,9 @@ use silhouette::rows::silhouette_seg;
 // The two ends of a segment of a cut.
 pub type Mouth = [f64; 4];
 
+// The points sampled along one segment.
+pub type SegSpots = [Spot; 17];
+
 // ---- mouths
 
 // Writes the ends of the segments of the silhouette of a part whose outline starts in row `first`, from `at` on.
@@ -164,7 +167,7 @@ fn put_seg(samples: &mut [Spot], at: usize, s: Seg, place: Placement, mouths: &[
 }
 
 // Writes the samples of a segment, placed, to the front.
-pub fn seg_samples(samples: &mut [Spot; 17], s: Seg, place: Placement, mouths: &[Mouth]) -> usize
+pub fn seg_samples(samples: &mut SegSpots, s: Seg, place: Placement, mouths: &[Mouth]) -> usize
     ensures { λ r. ⌜ (r ≡ length (samplesOf (mouthsIn (now (mouths .entry))) s)) × (now (samples .exit) ≡ sets (now (samples .entry)) 0 (map rowOf (map (worldOf place) (samplesOf (mouthsIn (now (mouths .entry))) s)))) × (r ≤ 17) ⌝ }
 {
     put_seg(samples, 0, s, place, mouths)

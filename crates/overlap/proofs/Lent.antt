@@ -2,28 +2,26 @@
 use Prim.Native.Nat.{ℕ, _+_, _*_, _<_, _≤_}
 use native.Mathlib.Omega.{arith}
 use mathlib.Core.Path.{_≡_, sym, ap, ap₂, _∙_}
-use mathlib.Core.Bool.{Bool, true, not, cond}
+use mathlib.Core.Bool.{Bool, true, cond}
 use mathlib.Core.List.{List, _++_, map}
 use lib.Ieee.{Float}
 use lib.ListN.{length, take, replicate, length-map, length-append}
 use lib.Seq.{sets, length-sets, length-take-le}
-use borrow.Author.Tests.{le-leb}
 use Rattle.laws.specs.Lists.{flat}
-use Rattle.laws.proofs.Choice.{and-yes, cond-yes, cond-no}
+use Rattle.laws.proofs.Choice.{cond-yes}
 use Rattle.laws.proofs.Sums.{sum-part}
 use Rattle.laws.proofs.Writing.{sets-taken}
 use Rattle.geometry.specs.declared.Point.{Point}
 use Rattle.geometry.specs.declared.Seg.{Seg}
 use Rattle.mechanism.specs.Check.{FewParts}
 use Rattle.mechanism.specs.Description.{partAt, segsOf, startOfPart}
-use Rattle.mechanism.specs.Segments.{outlinesIn, segsCounted}
+use Rattle.mechanism.specs.Segments.{outlinesIn}
 use Rattle.mechanism.specs.declared.Outlines.{Outlines}
 use Rattle.mechanism.specs.declared.Parts.{Parts}
 use Rattle.bodies.specs.Pose.{worldOf}
 use Rattle.bodies.specs.declared.pose.Placement.{Placement}
 use Rattle.bodies.specs.declared.pose.Pose.{Pose}
 use Rattle.silhouette.specs.Silhouette.{silhouetteFrom}
-use Rattle.mechanism.proofs.Checks.{parts-few}
 use Rattle.material.specs.Material.{Edge, Material, pointsOf, materialOf, depthOf, deepestSquare}
 use Rattle.drawing.specs.Drawing.{placedOf, rowOf, same, rowsOf, startsOf, solidsOf, cutsOf, chosenMaterial, roomFrom, countsOf}
 use Rattle.drawing.specs.Samples.{mouthsOf, samplesOf, partSamples, mouthRow, mouthsIn, mouthRoom}
@@ -31,16 +29,12 @@ use Rattle.drawing.specs.declared.Chosen.{Chosen}
 use Rattle.drawing.specs.declared.Polygons.{Polygons}
 use Rattle.drawing.proofs.Draws.{room-from-here}
 use Rattle.drawing.proofs.Segments.{from-part}
-use Rattle.drawing.proofs.Laid.{points-back, mouths-back, points-most, mouths-most, drawn-material}
+use Rattle.drawing.proofs.Laid.{points-back, points-most, drawn-material, mouths-read}
 use Rattle.overlap.specs.Overlap.{sunkBy, sunkOf}
 
 -- the starts as they are before anything is drawn
 abbrev pub zeros : List ℕ
 zeros = replicate 33 0
-
--- parts that pass no limit have as many segments as are counted
-pub counted-few : (ps : Parts) → FewParts ps → segsCounted ps ≡ startOfPart ps (ps .count)
-counted-few ps few = cond-no _ _ (parts-few ps few)
 
 -- ---- the polygons of the chosen parts
 module _ (ps : Parts) (rows : List (List Float)) (q : Pose) (c : Chosen) (few : FewParts ps) (there : startOfPart ps (ps .count) ≤ length rows) (l : List (List Float)) (s : List ℕ)
@@ -114,44 +108,8 @@ module _ (ps : Parts) (rows : List (List Float)) (q : Pose) (c : Chosen) (few : 
 -- ---- the mouths
 module _ (ps : Parts) (rows : List (List Float)) (few : FewParts ps) (there : startOfPart ps (ps .count) ≤ length rows) (l : List (List Float)) (long : 2 * startOfPart ps (ps .count) ≤ length l) {n : ℕ} {l′ : List (List Float)}
     (drawn : (n ≡ cond (mouthRoom ps (length l) (length rows)) (length (mouthsOf ps (outlinesIn rows))) 0) × (l′ ≡ cond (mouthRoom ps (length l) (length rows)) (sets l 0 (map mouthRow (mouthsOf ps (outlinesIn rows)))) l)) where
-  abbrev mouths : List Edge
-  mouths = mouthsOf ps (outlinesIn rows)
-
-  mouth-room : mouthRoom ps (length l) (length rows) ≡ true
-  mouth-room =
-      let over = parts-few ps few in
-      let k = counted-few ps few in
-      and-yes _ (ap not over) ∙ and-yes _ (le-leb (2 * segsCounted ps) (length l) (omega (arith, k, long))) ∙ le-leb (segsCounted ps) (length rows) (omega (arith, k, there))
-
-  mouth-count : n ≡ length mouths
-  mouth-count = drawn .0 ∙ cond-yes _ _ mouth-room
-
-  mouths-are : l′ ≡ sets l 0 (map mouthRow mouths)
-  mouths-are = drawn .1 ∙ cond-yes _ _ mouth-room
-
-  pub mouths-long : length l′ ≡ length l
-  mouths-long = ap length mouths-are ∙ length-sets l 0 (map mouthRow mouths)
-
-  pub mouths-within : n ≤ length l′
-  mouths-within =
-      let e = mouth-count in
-      let f = mouths-most ps (outlinesIn rows) in
-      let k = mouths-long in
-      omega (arith, e, f, k, long)
-
-  pub mouths-counted : n ≡ length (take n l′)
-  mouths-counted = sym (length-take-le n l′ mouths-within)
-
-  mouths-read : mouthsIn (take n l′) ≡ mouths
-  mouths-read =
-      let f = mouths-most ps (outlinesIn rows) in
-      let m = length-map mouths mouthRow in
-      ap (λ (x : List (List Float)). mouthsIn (take n x)) mouths-are
-      ∙ ap mouthsIn (sets-taken (map mouthRow mouths) l n (m ∙ sym mouth-count) (omega (arith, f, m, long)))
-      ∙ mouths-back mouths
-
   pub sunk-with : (q : Pose) (owner : ℕ → Bool) (m : Material) {d : Float} → d ≡ sunkBy ps (outlinesIn rows) q owner (mouthsIn (take n l′)) m → d ≡ sunkOf ps (outlinesIn rows) q owner m
-  sunk-with q owner m e = e ∙ ap (λ (k : List Edge). sunkBy ps (outlinesIn rows) q owner k m) mouths-read
+  sunk-with q owner m e = e ∙ ap (λ (k : List Edge). sunkBy ps (outlinesIn rows) q owner k m) (mouths-read ps rows few there l long drawn)
 
 -- ---- part i as a loop over rows reads it: its segments start in row `first`
 module _ (ps : Parts) (rows : List (List Float)) (few : FewParts ps) (there : startOfPart ps (ps .count) ≤ length rows) {first : ℕ} (i : ℕ) (h : i < ps .count) (e : first ≡ startOfPart ps i) where

@@ -6,7 +6,7 @@ use mathlib.Core.Path.{_≡_, refl, sym, ap, ap₂, subst, _∙_}
 use mathlib.Core.Bool.{Bool, true, false, not, cond}
 use mathlib.Core.List.{List, [], _∷_, _++_, map, reverse}
 use lib.Dec.{eqb, ltb}
-use lib.Ieee.{Float}
+use lib.Ieee.{Float, neg}
 use lib.ListN.{length, getD, take, drop, set, length-map, length-set, length-drop, length-reverse, List·getD-map, List·getD-append, List·getD-eq-default}
 use lib.Seq.{sets, drop-cons, getD-take, getD-drop, getD-set-same, getD-set-other, getD-append-add, length-take-le, take-all, take-length}
 use borrow.Author.Tests.{eqb-true, eqb-false, eq-eqb, ne-eqb, ltb-true, ltb-false, le-leb, lt-leb}
@@ -14,6 +14,7 @@ use Rattle.laws.proofs.Choice.{and-no, cond-yes, cond-no}
 use Rattle.laws.proofs.Fill.{reverse-take}
 use Rattle.laws.proofs.Lists.{getD-any}
 use Rattle.laws.proofs.Sums.{sum-part}
+use Rattle.ieee.specs.Consts.{oneF}
 use Rattle.geometry.specs.declared.Seg.{Seg}
 use Rattle.mechanism.specs.Description.{noSeg, segAt, partAt, segsOf, startOfPart, turnedLength, silhouetteLength}
 use Rattle.mechanism.specs.Check.{partsOver}
@@ -27,8 +28,7 @@ use Rattle.mechanism.specs.declared.part.Sweep.{Sweep}
 use Rattle.mechanism.specs.declared.part.Sweep.the-variants.{Extruded, Revolved, Milled, Oval}
 use Rattle.silhouette.specs.declared.MaybeAxis.{MaybeAxis}
 use Rattle.silhouette.specs.declared.MaybeAxis.the-variants.{SomeAxis, NoAxis}
-use Rattle.silhouette.specs.Silhouette.{axisOf, segOf, boxed, noLine, startIn, endIn, changed, chainOf, turnedSeg, mirrored, revolvedOf, silhouetteOf, outlineFrom, silhouetteFrom, silhouetteCount, isPart, outlineOf, silhouetteAt}
-use Rattle.silhouette.specs.Rows.{plainAt, chainAt, turnedAt}
+use Rattle.silhouette.specs.Silhouette.{axisOf, segOf, boxed, noLine, aboutAxis, reversedOf, startIn, endIn, changed, chainOf, turnedSeg, mirrored, revolvedOf, silhouetteOf, outlineFrom, silhouetteFrom, silhouetteCount, isPart, outlineOf, silhouetteAt}
 use Rattle.silhouette.proofs.Lengths.{chain-length, silhouette-length, part-of}
 use Rattle.silhouette.proofs.Walks.{about-none, about-few, about-some}
 
@@ -91,67 +91,52 @@ last-test k n h = go (eqb (k + 2) n) refl
     go true e = let x = eqb-true (k + 2) n e in eq-eqb k (n - 1 - 1) (omega arith)
     go false e = let x = eqb-false (k + 2) n e in ne-eqb k (n - 1 - 1) (λ y. x (omega arith))
 
-module _ (l : List Seg) (f : ℕ → Seg) (two : 2 ≤ length l) (found : (j : ℕ) → j < length l → getD l j noLine ≡ f j) where
-  pub chain-at : (k : ℕ) → k + 1 < length l → getD (chainOf l) k noLine ≡ chainAt f (length l) k
-  unfolding chainOf
-  chain-at k h =
-      let m = length l - 1 in
-      let a = changed startIn 0 (take m l) in
-      let t : length (take m l) ≡ m = length-take-le m l (omega arith) in
-      let b : length a ≡ m = length-set (take m l) 0 (startIn (getD (take m l) 0 noLine)) ∙ t in
-      let x : getD (take m l) k noLine ≡ f k = getD-take m l k noLine (omega arith) ∙ found k (omega arith) in
-      let y : getD a k noLine ≡ cond (eqb k 0) (startIn (f k)) (f k) = changed-get startIn 0 (take m l) k (omega arith) ∙ ap (λ (s : Seg). cond (eqb k 0) (startIn s) s) x in
-      changed-get endIn (m - 1) a k (omega arith) ∙ ap₂ (λ (c : Bool) (s : Seg). cond c (endIn s) s) (last-test k (length l) two) y
+chain-at : (l : List Seg) (k : ℕ) → 2 ≤ length l → k + 1 < length l → getD (chainOf l) k noLine ≡ cond (eqb (k + 2) (length l)) (endIn (cond (eqb k 0) (startIn (getD l k noLine)) (getD l k noLine))) (cond (eqb k 0) (startIn (getD l k noLine)) (getD l k noLine))
+unfolding chainOf
+chain-at l k two h =
+    let m = length l - 1 in
+    let a = changed startIn 0 (take m l) in
+    let t : length (take m l) ≡ m = length-take-le m l (omega arith) in
+    let b : length a ≡ m = length-set (take m l) 0 (startIn (getD (take m l) 0 noLine)) ∙ t in
+    let y : getD a k noLine ≡ cond (eqb k 0) (startIn (getD l k noLine)) (getD l k noLine) =
+    changed-get startIn 0 (take m l) k (omega arith) ∙ ap (λ (s : Seg). cond (eqb k 0) (startIn s) s) (getD-take m l k noLine (omega arith)) in
+    changed-get endIn (m - 1) a k (omega arith) ∙ ap₂ (λ (c : Bool) (s : Seg). cond c (endIn s) s) (last-test k (length l) two) y
 
-  -- ---- the chain and its mirror
-  module _ (x : Float) (k : ℕ) where
-    chain-long : length (chainOf l) ≡ length l - 1
-    chain-long = chain-length l
+-- ---- the chain and its mirror
+module _ (l : List Seg) (x : Float) (k : ℕ) where
+  abbrev there : List Seg
+  there = map (turnedSeg x) (chainOf l)
 
-    abbrev there : List Seg
-    there = map (turnedSeg x) (chainOf l)
+  abbrev back : List Seg
+  back = map (mirrored x) (reverse (chainOf l))
 
-    abbrev back : List Seg
-    back = map (mirrored x) (reverse (chainOf l))
+  there-long : length there ≡ length l - 1
+  there-long = length-map (chainOf l) (turnedSeg x) ∙ chain-length l
 
-    there-long : length there ≡ length l - 1
-    there-long = length-map (chainOf l) (turnedSeg x) ∙ chain-long
+  back-long : length back ≡ length l - 1
+  back-long = length-map (reverse (chainOf l)) (mirrored x) ∙ length-reverse (chainOf l) ∙ chain-length l
 
-    back-long : length back ≡ length l - 1
-    back-long = length-map (reverse (chainOf l)) (mirrored x) ∙ length-reverse (chainOf l) ∙ chain-long
+  turned-there : k < length l - 1 → getD (revolvedOf x (chainOf l)) k noLine ≡ turnedSeg x (getD (chainOf l) k noLine)
+  turned-there h =
+      let e = there-long in
+      List·getD-append there back noLine k (omega arith) ∙ getD-any there k noLine (turnedSeg x noLine) (omega arith) ∙ List·getD-map (turnedSeg x) (chainOf l) k noLine
 
-    pub turned-there : k < length l - 1 → getD (revolvedOf x (chainOf l)) k noLine ≡ turnedSeg x (chainAt f (length l) k)
-    turned-there h =
-        let e = there-long in
-        let c = chain-long in
-        List·getD-append there back noLine k (omega arith) ∙ getD-any there k noLine (turnedSeg x noLine) (omega arith)
-        ∙ List·getD-map (turnedSeg x) (chainOf l) k noLine ∙ ap (turnedSeg x) (chain-at k (omega arith))
+  at-back : length l - 1 ≤ k → getD (revolvedOf x (chainOf l)) k noLine ≡ getD back (k - (length l - 1)) noLine
+  at-back h =
+      let e = there-long in
+      let s : k ≡ length there + (k - (length l - 1)) = omega arith in
+      ap (λ (j : ℕ). getD (there ++ back) j noLine) s ∙ getD-append-add there back (k - (length l - 1)) noLine
 
-    at-back : length l - 1 ≤ k → getD (revolvedOf x (chainOf l)) k noLine ≡ getD back (k - (length l - 1)) noLine
-    at-back h =
-        let e = there-long in
-        let s : k ≡ length there + (k - (length l - 1)) = omega arith in
-        ap (λ (j : ℕ). getD (there ++ back) j noLine) s ∙ getD-append-add there back (k - (length l - 1)) noLine
+  turned-back : length l - 1 ≤ k → k - (length l - 1) < length l - 1 → getD (revolvedOf x (chainOf l)) k noLine ≡ mirrored x (getD (chainOf l) (length l - 1 - 1 - (k - (length l - 1))) noLine)
+  turned-back h b =
+      let e = back-long in
+      let c = chain-length l in
+      let j = k - (length l - 1) in
+      at-back h ∙ getD-any back j noLine (mirrored x noLine) (omega arith) ∙ List·getD-map (mirrored x) (reverse (chainOf l)) j noLine
+      ∙ ap (mirrored x) (reverse-at (chainOf l) j noLine (omega arith) ∙ ap (λ (n : ℕ). getD (chainOf l) (n - 1 - j) noLine) c)
 
-    pub turned-back : length l - 1 ≤ k → k - (length l - 1) < length l - 1 → getD (revolvedOf x (chainOf l)) k noLine ≡ mirrored x (chainAt f (length l) (length l - 1 - 1 - (k - (length l - 1))))
-    turned-back h b =
-        let e = back-long in
-        let c = chain-long in
-        let j = k - (length l - 1) in
-        at-back h ∙ getD-any back j noLine (mirrored x noLine) (omega arith) ∙ List·getD-map (mirrored x) (reverse (chainOf l)) j noLine
-        ∙ ap (mirrored x) (reverse-at (chainOf l) j noLine (omega arith) ∙ ap (λ (n : ℕ). getD (chainOf l) (n - 1 - j) noLine) c ∙ chain-at (length l - 1 - 1 - j) (omega arith))
-
-    pub turned-past : length l - 1 ≤ k → length l - 1 ≤ k - (length l - 1) → getD (revolvedOf x (chainOf l)) k noLine ≡ noLine
-    turned-past h b = let e = back-long in at-back h ∙ List·getD-eq-default back noLine (omega arith)
-
-    pub turned-at : getD (revolvedOf x (chainOf l)) k noLine ≡ turnedAt f (length l) x k
-    turned-at = go (ltb k (length l - 1)) (ltb (k - (length l - 1)) (length l - 1)) refl refl
-      where
-        go : (b c : Bool) → ltb k (length l - 1) ≡ b → ltb (k - (length l - 1)) (length l - 1) ≡ c
-            → getD (revolvedOf x (chainOf l)) k noLine ≡ cond b (turnedSeg x (chainAt f (length l) k)) (cond c (mirrored x (chainAt f (length l) (length l - 1 - 1 - (k - (length l - 1))))) noLine)
-        go true c e d = turned-there (ltb-true k (length l - 1) e)
-        go false true e d = turned-back (ltb-false k (length l - 1) e) (ltb-true (k - (length l - 1)) (length l - 1) d)
-        go false false e d = turned-past (ltb-false k (length l - 1) e) (ltb-false (k - (length l - 1)) (length l - 1) d)
+  turned-past : length l - 1 ≤ k → length l - 1 ≤ k - (length l - 1) → getD (revolvedOf x (chainOf l)) k noLine ≡ noLine
+  turned-past h b = let e = back-long in at-back h ∙ List·getD-eq-default back noLine (omega arith)
 
 -- ---- a part whose segments are all there
 pub count-is : (o : Outlines) (first : ℕ) (p : Part) → p .segs ≤ 48 → p .segs ≤ length (o .seg) - first → length (silhouetteFrom o first p) ≡ silhouetteCount p
@@ -222,33 +207,63 @@ module _ (rows : List (List Float)) (first n : ℕ) where
       let e = outline-rest (outlinesIn rows) first n (omega arith) in
       (omega arith, omega arith)
 
-module _ (o : Outlines) (first : ℕ) (p : Part) (k : ℕ) {n : ℕ} {a : MaybeAxis} (counted : n ≡ length (outlineFrom o first (p .segs))) (about : a ≡ axisOf (p .sweep)) where
+-- n segments from row `first` on, all of them there
+module _ (rows : List (List Float)) (first n k : ℕ) (h : n ≤ length rows - first) where
   abbrev outline : List Seg
-  outline = outlineFrom o first (p .segs)
+  outline = outlineFrom (outlinesIn rows) first n
 
-  abbrev numbered : ℕ → Seg
-  numbered j = segAt o (first + j)
+  here-long : length outline ≡ n
+  here-long = let l = rows-long rows in outline-whole (outlinesIn rows) first n (omega (arith, h, l))
 
-  found-at : (j : ℕ) → j < length outline → getD outline j noLine ≡ numbered j
-  found-at j h = let w = outline-within o first (p .segs) in outline-at o first (p .segs) j h (omega arith)
+  pub plain-here : k < n → segAt (outlinesIn rows) (first + k) ≡ getD outline k noLine
+  plain-here b = let l = here-long in sym (outline-at (outlinesIn rows) first n k (omega (arith, b, l)) b)
 
-  plain-at : (b : Bool) → ltb k (length outline) ≡ b → cond b (numbered k) noLine ≡ getD outline k noLine
-  plain-at true e = sym (found-at k (ltb-true k (length outline) e))
-  plain-at false e = sym (List·getD-eq-default outline noLine (ltb-false k (length outline) e))
+  pub plain-past : n ≤ k → noLine ≡ getD outline k noLine
+  plain-past b = let l = here-long in sym (List·getD-eq-default outline noLine (omega (arith, b, l)))
 
-  pub seg-plain : a ≡ NoAxis → plainAt numbered n k ≡ getD (silhouetteFrom o first p) k noLine
-  seg-plain e =
-      ap (λ (m : ℕ). plainAt numbered m k) counted ∙ plain-at (ltb k (length outline)) refl
-      ∙ ap (λ (l : List Seg). getD l k noLine) (sym (about-none (p .sweep) outline about e))
+  pub chain-here : {s t r : Seg} → k + 1 < n → s ≡ segAt (outlinesIn rows) (first + k) → t ≡ cond (eqb k 0) (startIn s) s → r ≡ cond (eqb (k + 2) n) (endIn t) t → r ≡ getD (chainOf outline) k noLine
+  chain-here b e f g =
+      let l = here-long in
+      let x = e ∙ plain-here (omega (arith, b)) in
+      g ∙ ap₂ (λ (m : ℕ) (y : Seg). cond (eqb (k + 2) m) (endIn y) y) (sym l) (f ∙ ap (λ (y : Seg). cond (eqb k 0) (startIn y) y) x)
+      ∙ sym (chain-at outline k (omega (arith, b, l)) (omega (arith, b, l)))
+
+  module _ (x : Float) where
+    pub turned-first : {s r : Seg} → k < n - 1 → s ≡ getD (chainOf outline) k noLine → r ≡ turnedSeg x s → r ≡ getD (revolvedOf x (chainOf outline)) k noLine
+    turned-first b e f = let l = here-long in f ∙ ap (turnedSeg x) e ∙ sym (turned-there outline x k (omega (arith, b, l)))
+
+    pub turned-second : {s t r : Seg} → n - 1 ≤ k → k - (n - 1) < n - 1 → s ≡ getD (chainOf outline) (n - 1 - 1 - (k - (n - 1))) noLine → t ≡ aboutAxis s x (neg oneF) → r ≡ reversedOf t
+        → r ≡ getD (revolvedOf x (chainOf outline)) k noLine
+    turned-second b d e f g =
+        let l = here-long in
+        g ∙ ap reversedOf f ∙ ap (mirrored x) (e ∙ ap (λ (m : ℕ). getD (chainOf outline) (m - 1 - 1 - (k - (m - 1))) noLine) (sym l)) ∙ sym (turned-back outline x k (omega (arith, b, l)) (omega (arith, d, l)))
+
+    pub turned-none : n - 1 ≤ k → n - 1 ≤ k - (n - 1) → noLine ≡ getD (revolvedOf x (chainOf outline)) k noLine
+    turned-none b d = let l = here-long in sym (turned-past outline x k (omega (arith, b, l)) (omega (arith, d, l)))
+
+-- as many segments as there are
+outline-counted : (o : Outlines) (first m : ℕ) {n : ℕ} → n ≡ length (outlineFrom o first m) → outlineFrom o first n ≡ outlineFrom o first m
+outline-counted o first m {n} e = go (ltb m (length (o .seg) - first)) refl
+  where
+    go : (b : Bool) → ltb m (length (o .seg) - first) ≡ b → outlineFrom o first n ≡ outlineFrom o first m
+    go true t = let h = ltb-true m (length (o .seg) - first) t in ap (outlineFrom o first) (e ∙ outline-whole o first m (omega (arith, h)))
+    go false t =
+        let h = ltb-false m (length (o .seg) - first) t in
+        let d = length-drop first (o .seg) in
+        let k = outline-rest o first m h in
+        ap (map segOf) (take-all n (drop first (o .seg)) (omega (arith, d, e, k)) ∙ sym (take-all m (drop first (o .seg)) (omega (arith, d, h))))
+
+module _ (o : Outlines) (first : ℕ) (p : Part) (k : ℕ) {n : ℕ} {a : MaybeAxis} (counted : n ≡ length (outlineFrom o first (p .segs))) (about : a ≡ axisOf (p .sweep)) where
+  pub seg-plain : a ≡ NoAxis → getD (outlineFrom o first n) k noLine ≡ getD (silhouetteFrom o first p) k noLine
+  seg-plain e = ap (λ (l : List Seg). getD l k noLine) (outline-counted o first (p .segs) counted ∙ sym (about-none (p .sweep) (outlineFrom o first (p .segs)) about e))
 
   pub seg-few : {x : Float} → a ≡ SomeAxis x → n < 2 → noLine ≡ getD (silhouetteFrom o first p) k noLine
-  seg-few e h = ap (λ (l : List Seg). getD l k noLine) (sym (about-few (p .sweep) outline about e (omega (arith, counted, h))))
+  seg-few e h = ap (λ (l : List Seg). getD l k noLine) (sym (about-few (p .sweep) (outlineFrom o first (p .segs)) about e (omega (arith, counted, h))))
 
-  pub seg-turned : {x : Float} → a ≡ SomeAxis x → 2 ≤ n → turnedAt numbered n x k ≡ getD (silhouetteFrom o first p) k noLine
+  pub seg-turned : {x : Float} → a ≡ SomeAxis x → 2 ≤ n → getD (revolvedOf x (chainOf (outlineFrom o first n))) k noLine ≡ getD (silhouetteFrom o first p) k noLine
   seg-turned {x} e h =
-      let t : 2 ≤ length outline = omega (arith, counted, h) in
-      ap (λ (m : ℕ). turnedAt numbered m x k) counted ∙ sym (turned-at outline numbered t found-at x k)
-      ∙ ap (λ (l : List Seg). getD l k noLine) (sym (about-some (p .sweep) outline about e t))
+      ap (λ (l : List Seg). getD (revolvedOf x (chainOf l)) k noLine) (outline-counted o first (p .segs) counted)
+      ∙ ap (λ (l : List Seg). getD l k noLine) (sym (about-some (p .sweep) (outlineFrom o first (p .segs)) about e (omega (arith, counted, h))))
 
 -- how many segments a part's silhouette has, by its axis
 abbrev lengthAbout : MaybeAxis → ℕ → ℕ

@@ -1,2 +1,1 @@
 pub mod Silhouette
-pub mod Rows

@@ -1,11 +1,10 @@
 // The silhouette of a part whose outline stands in lent rows, segment by segment.
 ghost use mathlib.Core.Path.{_≡_};
+ghost use mathlib.Core.Bool.{cond};
 ghost use Prim.Native.Nat.{_+_, _-_, _<_, _≤_};
 ghost use lib.ListN.{length, getD};
-ghost use Rattle.mechanism.specs.Description.{segAt};
 ghost use Rattle.mechanism.specs.Segments.{outlinesIn};
-ghost use Rattle.silhouette.specs.Silhouette.{noLine, outlineFrom, silhouetteFrom, silhouetteCount};
-ghost use Rattle.silhouette.specs.Rows.{startInIf, endInIf, plainAt, chainAt, turnedAt};
+ghost use Rattle.silhouette.specs.Silhouette.{startIn, endIn, noLine, chainOf, revolvedOf, outlineFrom, silhouetteFrom, silhouetteCount};
 use super::MaybeAxis;
 use super::about_axis;
 use super::axis;
@@ -41,13 +40,13 @@ fn left_of(segs: &[SegRow], first: usize, n: usize) -> usize
 }
 
 fn start_in_if(t: bool, s: Seg) -> Seg
-    ensures { λ r. ⌜ r ≡ startInIf t s ⌝ }
+    ensures { λ r. ⌜ r ≡ cond t (startIn s) s ⌝ }
 {
     if t { start_in(s) } else { s }
 }
 
 fn end_in_if(t: bool, s: Seg) -> Seg
-    ensures { λ r. ⌜ r ≡ endInIf t s ⌝ }
+    ensures { λ r. ⌜ r ≡ cond t (endIn s) s ⌝ }
 {
     if t { end_in(s) } else { s }
 }
@@ -55,7 +54,7 @@ fn end_in_if(t: bool, s: Seg) -> Seg
 // Segment k of the n from row `first` on.
 fn plain_seg(segs: &[SegRow], first: usize, n: usize, k: usize) -> Seg
     requires { ⌜ n ≤ length (now segs) - first ⌝ }
-    ensures { λ r. ⌜ r ≡ plainAt (λ j. segAt (outlinesIn (now (segs .entry))) (first + j)) n k ⌝ }
+    ensures { λ r. ⌜ r ≡ getD (outlineFrom (outlinesIn (now (segs .entry))) first n) k noLine ⌝ }
 {
     if k < n {
         return seg_at(segs, first + k);
@@ -66,7 +65,7 @@ fn plain_seg(segs: &[SegRow], first: usize, n: usize, k: usize) -> Seg
 // Segment k of their chain.
 fn chain_seg(segs: &[SegRow], first: usize, n: usize, k: usize) -> Seg
     requires { ⌜ (n ≤ length (now segs) - first) × (k + 1 < n) ⌝ }
-    ensures { λ r. ⌜ r ≡ chainAt (λ j. segAt (outlinesIn (now (segs .entry))) (first + j)) n k ⌝ }
+    ensures { λ r. ⌜ r ≡ getD (chainOf (outlineFrom (outlinesIn (now (segs .entry))) first n)) k noLine ⌝ }
 {
     let s = start_in_if(k == 0, seg_at(segs, first + k));
     end_in_if(k + 2 == n, s)
@@ -75,7 +74,7 @@ fn chain_seg(segs: &[SegRow], first: usize, n: usize, k: usize) -> Seg
 // Segment k of the chain about the axis and its mirror.
 fn turned_seg(segs: &[SegRow], first: usize, n: usize, x: f64, k: usize) -> Seg
     requires { ⌜ (n ≤ length (now segs) - first) × (2 ≤ n) ⌝ }
-    ensures { λ r. ⌜ r ≡ turnedAt (λ j. segAt (outlinesIn (now (segs .entry))) (first + j)) n x k ⌝ }
+    ensures { λ r. ⌜ r ≡ getD (revolvedOf x (chainOf (outlineFrom (outlinesIn (now (segs .entry))) first n))) k noLine ⌝ }
 {
     let m = n - 1;
     if k < m {

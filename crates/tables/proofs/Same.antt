@@ -1,24 +1,20 @@
 -- The tables of points and parts ask of the outlines the silhouettes alone: they are the same of rows into which the segments were put. Assumes nothing.
-use Prim.Native.Nat.{ℕ, _*_, _≤_}
+use Prim.Native.Nat.{ℕ, _≤_}
 use native.Mathlib.Omega.{arith}
 use mathlib.Core.Path.{_≡_, sym, ap, ap₂, _∙_}
-use mathlib.Core.Bool.{true, not, cond}
+use mathlib.Core.Bool.{cond}
 use mathlib.Core.List.{List, [], _∷_, map}
 use lib.Ieee.{Float}
-use lib.ListN.{length, take, replicate, length-map}
-use lib.Seq.{sets, length-sets, length-take-le}
-use borrow.Author.Tests.{le-leb}
+use lib.ListN.{length, replicate}
+use lib.Seq.{sets}
 use Rattle.laws.specs.Lists.{flat}
-use Rattle.laws.proofs.Choice.{and-yes, cond-yes, cond-no}
 use Rattle.laws.proofs.Lists.{list-same, flat-each}
-use Rattle.laws.proofs.Writing.{sets-taken}
 use Rattle.ieee.specs.Consts.{zeroF}
 use Rattle.geometry.specs.declared.Point.{Point}
 use Rattle.geometry.specs.declared.Seg.{Seg}
 use Rattle.mechanism.specs.Check.{FewParts}
 use Rattle.mechanism.specs.Description.{partAt, startOfPart}
 use Rattle.mechanism.specs.Segments.{outlinesIn, segRows, segsFit, segsCounted}
-use Rattle.mechanism.proofs.Checks.{parts-few}
 use Rattle.mechanism.proofs.SegRows.{rows-long}
 use Rattle.mechanism.specs.declared.Outlines.{Outlines}
 use Rattle.mechanism.specs.declared.Parts.{Parts}
@@ -26,8 +22,7 @@ use Rattle.silhouette.specs.Silhouette.{silhouetteAt}
 use Rattle.silhouette.proofs.BySegment.{put-long, put-same}
 use Rattle.material.specs.Material.{Edge}
 use Rattle.drawing.specs.Drawing.{isSampled, drawnPoints, rowOf}
-use Rattle.drawing.specs.Samples.{mouthsOf, samplesOf, mouthRow, mouthsIn, mouthRoom}
-use Rattle.drawing.proofs.Laid.{mouths-back, mouths-few}
+use Rattle.drawing.specs.Samples.{samplesOf}
 use Rattle.drawing.proofs.Same.{mouths-same}
 use Rattle.tables.specs.Tables.{upTo, drawnOf, sampledOf, drawnUpTo, sampledUpTo, partRow, drawnTable, sampledTable, partTable}
 
@@ -64,7 +59,7 @@ module _ (ps : Parts) (o o′ : Outlines) (same : (i : ℕ) → silhouetteAt ps 
 abbrev octets : List (List Float)
 octets = replicate 384 (replicate 8 zeroF)
 
-abbrev quads : List (List Float)
+abbrev pub quads : List (List Float)
 quads = replicate 768 (replicate 4 zeroF)
 
 -- ---- the segments that `put_segs` leaves
@@ -79,40 +74,3 @@ module _ (ps : Parts) (o : Outlines) {k : ℕ} {rows : List (List Float)} (long 
         let e : length rows ≡ 384 = sym (rows-long rows) ∙ put-long ps o octets long counted (counted .1) put in
         let t = few .total in
         omega (arith, e, t)
-
-    -- ---- the mouths that `draw_mouths` leaves
-    abbrev mouths : List Edge
-    mouths = mouthsOf ps (outlinesIn rows)
-
-    room : mouthRoom ps (length quads) (length rows) ≡ true
-    room =
-        let e = cond-no 0 (startOfPart ps (ps .count)) (parts-few ps few) in
-        let t = few .total in
-        let w = segs-within in
-        and-yes _ (ap not (parts-few ps few)) ∙ and-yes _ (le-leb (2 * segsCounted ps) 768 (omega (arith, e, t))) ∙ le-leb (segsCounted ps) (length rows) (omega (arith, e, w))
-
-    module _ {n : ℕ} {l : List (List Float)}
-        (drawn : (n ≡ cond (mouthRoom ps (length quads) (length rows)) (length mouths) 0) × (l ≡ cond (mouthRoom ps (length quads) (length rows)) (sets quads 0 (map mouthRow mouths)) quads)) where
-      mouth-count : n ≡ length mouths
-      mouth-count = drawn .0 ∙ cond-yes _ _ room
-
-      mouths-are : l ≡ sets quads 0 (map mouthRow mouths)
-      mouths-are = drawn .1 ∙ cond-yes _ _ room
-
-      pub mouths-within : n ≤ length l
-      mouths-within =
-          let e = mouth-count in
-          let f = mouths-few ps (outlinesIn rows) few in
-          let k : length l ≡ 768 = ap length mouths-are ∙ length-sets quads 0 (map mouthRow mouths) in
-          omega (arith, e, f, k)
-
-      pub mouths-counted : n ≡ length (take n l)
-      mouths-counted = sym (length-take-le n l mouths-within)
-
-      pub mouths-read : mouthsIn (take n l) ≡ mouths
-      mouths-read =
-          let f = mouths-few ps (outlinesIn rows) few in
-          let m = length-map mouths mouthRow in
-          ap (λ (x : List (List Float)). mouthsIn (take n x)) mouths-are
-          ∙ ap mouthsIn (sets-taken (map mouthRow mouths) quads n (m ∙ sym mouth-count) (omega (arith, f, m)))
-          ∙ mouths-back mouths

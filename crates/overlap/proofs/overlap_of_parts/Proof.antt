@@ -4,7 +4,7 @@ use lib.ListN.{replicate}
 use Rattle.ieee.specs.Consts.{zeroF}
 use Rattle.mechanism.specs.Segments.{outlinesIn}
 use Rattle.mechanism.proofs.Known.{outlines-long}
-use Rattle.overlap.proofs.Lent.{counted-few}
+use Rattle.drawing.proofs.Laid.{counted-few}
 use Rattle.overlap.proofs.Pairwise.{sunk-parts, parts-both}
 use Rattle.overlap.proofs.Same.{put-asks, parts-put}
 use borrow.Author.Needs.{needs}

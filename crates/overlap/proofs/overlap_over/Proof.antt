@@ -3,7 +3,7 @@ use mathlib.Core.Path.{sym, _∙_}
 use Rattle.mechanism.specs.Segments.{outlinesIn}
 use Rattle.sides.proofs.Accepted.{are-drawn}
 use Rattle.overlap.proofs.Answers.{pair-drawn-is, pair-not-drawn}
-use Rattle.overlap.proofs.Lent.{counted-few}
+use Rattle.drawing.proofs.Laid.{counted-few}
 use borrow.Author.Needs.{needs}
 use Rattle.overlap.proofs.overlap_over.Statement.{statement}
 use Rattle.overlap.proofs.overlap_over.Tie as tie

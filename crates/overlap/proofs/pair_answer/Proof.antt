@@ -6,7 +6,7 @@ use Rattle.mechanism.specs.Check.{thenCalled}
 use Rattle.mechanism.specs.Segments.{described}
 use Rattle.bodies.specs.declared.Checked.{Checked}
 use Rattle.overlap.proofs.Answers.{pair-refused, pair-there, pair-few, pair-is-drawn, pair-answered}
-use Rattle.overlap.proofs.Lent.{counted-few}
+use Rattle.drawing.proofs.Laid.{counted-few}
 use borrow.Author.Needs.{needs}
 use Rattle.overlap.proofs.pair_answer.Statement.{statement}
 use Rattle.overlap.proofs.pair_answer.Tie as tie

@@ -3,7 +3,8 @@ use mathlib.Core.Path.{_∙_}
 use Rattle.mechanism.specs.Segments.{outlinesIn}
 use Rattle.drawing.specs.Drawing.{chosenMaterial}
 use Rattle.overlap.specs.Overlap.{ownerAt}
-use Rattle.overlap.proofs.Lent.{mouths-long, mouths-within, mouths-counted, sunk-with}
+use Rattle.drawing.proofs.Laid.{mouths-long, mouths-within, mouths-counted}
+use Rattle.overlap.proofs.Lent.{sunk-with}
 use borrow.Author.Needs.{needs}
 use Rattle.overlap.proofs.sunk_both.Statement.{statement}
 use Rattle.overlap.proofs.sunk_both.Tie as tie

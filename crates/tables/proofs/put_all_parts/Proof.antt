@@ -1,6 +1,8 @@
+use native.Mathlib.Omega.{arith}
+use Rattle.drawing.proofs.Laid.{mouths-within, mouths-counted, mouths-read}
 use borrow.Author.Needs.{needs}
 use Rattle.mechanism.proofs.Known.{outlines-long}
-use Rattle.tables.proofs.Same.{tables-same, silhouettes, segs-within, mouths-within, mouths-counted, mouths-read}
+use Rattle.tables.proofs.Same.{tables-same, silhouettes, segs-within, quads}
 use Rattle.tables.proofs.put_all_parts.Statement.{statement}
 use Rattle.tables.proofs.put_all_parts.Tie as tie
 
@@ -31,7 +33,8 @@ array-share-prefix-mouths c =
     let long = outlines-long (s .args .o) _ (s .good .1 .1 .1 .1 .0) in
     let counted = c .before .before .before .before .before .before .before .before .before .before .segs-counted .ensures in
     let put = c .before .before .before .before .before .before .before .before .before .put-segs .ensures in
-    mouths-within (s .args .ps) (s .args .o) long counted put (s .pre .0) (c .before .before .before .before .before .draw-mouths .ensures)
+    let total = s .pre .0 .total in
+    mouths-within (s .args .ps) (c .before .before .before .before .before .before .before .before .before .put-segs .last .0) (s .pre .0) (segs-within (s .args .ps) (s .args .o) long counted put (s .pre .0)) quads (omega (arith, total)) (c .before .before .before .before .before .draw-mouths .ensures)
 
 slice-aggregate-put-parts-2 : tie.Need-slice-aggregate-put-parts-2
 slice-aggregate-put-parts-2 c =
@@ -39,7 +42,8 @@ slice-aggregate-put-parts-2 c =
     let long = outlines-long (s .args .o) _ (s .good .1 .1 .1 .1 .0) in
     let counted = c .before .before .before .before .before .before .before .before .before .before .before .segs-counted .ensures in
     let put = c .before .before .before .before .before .before .before .before .before .before .put-segs .ensures in
-    mouths-counted (s .args .ps) (s .args .o) long counted put (s .pre .0) (c .before .before .before .before .before .before .draw-mouths .ensures)
+    let total = s .pre .0 .total in
+    mouths-counted (s .args .ps) (c .before .before .before .before .before .before .before .before .before .before .put-segs .last .0) (s .pre .0) (segs-within (s .args .ps) (s .args .o) long counted put (s .pre .0)) quads (omega (arith, total)) (c .before .before .before .before .before .before .draw-mouths .ensures)
 
 put-parts-requires : tie.Need-put-parts-requires
 put-parts-requires c κs =
@@ -47,7 +51,8 @@ put-parts-requires c κs =
     let long = outlines-long (s .args .o) _ (s .good .1 .1 .1 .1 .0) in
     let counted = c .before .before .before .before .before .before .before .before .before .before .before .segs-counted .ensures in
     let put = c .before .before .before .before .before .before .before .before .before .before .put-segs .ensures in
-    (s .pre .0, segs-within (s .args .ps) (s .args .o) long counted put (s .pre .0), mouths-read (s .args .ps) (s .args .o) long counted put (s .pre .0) (c .before .before .before .before .before .before .draw-mouths .ensures), s .pre .1, s .pre .2, s .pre .3)
+    let total = s .pre .0 .total in
+    (s .pre .0, segs-within (s .args .ps) (s .args .o) long counted put (s .pre .0), mouths-read (s .args .ps) (c .before .before .before .before .before .before .before .before .before .before .put-segs .last .0) (s .pre .0) (segs-within (s .args .ps) (s .args .o) long counted put (s .pre .0)) quads (omega (arith, total)) (c .before .before .before .before .before .before .draw-mouths .ensures), s .pre .1, s .pre .2, s .pre .3)
 
 same-length : tie.Need-same-length
 same-length c = search needs

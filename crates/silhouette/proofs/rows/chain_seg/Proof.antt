@@ -1,3 +1,4 @@
+use Rattle.silhouette.proofs.BySegment.{chain-here}
 use borrow.Author.Needs.{needs}
 use Rattle.silhouette.proofs.rows.chain_seg.Statement.{statement}
 use Rattle.silhouette.proofs.rows.chain_seg.Tie as tie
@@ -18,7 +19,7 @@ end-in-if-requires : tie.Need-end-in-if-requires
 end-in-if-requires c κs = search needs
 
 returns : tie.Need-returns
-returns c = simp (c .end-in-if .ensures, c .before .start-in-if .ensures, c .before .before .seg-at .ensures)
+returns c = let s = c .before .before .before in chain-here (s .args .segs .now) (s .args .first) (s .args .n) (s .args .k) (s .pre .0) (s .pre .1) (c .before .before .seg-at .ensures) (c .before .start-in-if .ensures) (c .end-in-if .ensures)
 
 pub chain-seg-spec : {M : Type 1} → statement M
 chain-seg-spec =

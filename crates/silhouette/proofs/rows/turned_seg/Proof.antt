@@ -1,6 +1,5 @@
-use mathlib.Core.Path.{sym, _∙_}
-use borrow.Author.Tests.{lt-ltb, le-ltb}
-use Rattle.laws.proofs.Choice.{cond-yes, cond-no}
+use mathlib.Core.Path.{_∙_}
+use Rattle.silhouette.proofs.BySegment.{turned-first, turned-second, turned-none}
 use borrow.Author.Needs.{needs}
 use Rattle.silhouette.proofs.rows.turned_seg.Statement.{statement}
 use Rattle.silhouette.proofs.rows.turned_seg.Tie as tie
@@ -15,7 +14,7 @@ about-axis-requires : tie.Need-about-axis-requires
 about-axis-requires c κs = search needs
 
 returns : tie.Need-returns
-returns c = simp (c .about-axis .ensures, c .before .chain-seg .ensures) (sym (cond-yes _ _ (lt-ltb _ _ (c .before .before .if1 .taken))))
+returns c = let s = c .before .before .before in turned-first (s .args .segs .now) (s .args .first) (s .args .n) (s .args .k) (s .pre .0) (s .args .x) (c .before .before .if1 .taken) (c .before .chain-seg .ensures) (c .about-axis .ensures)
 
 sub-chain-seg : tie.Need-sub-chain-seg
 sub-chain-seg c = search needs
@@ -33,13 +32,13 @@ reversed-requires : tie.Need-reversed-requires
 reversed-requires c κs = search needs
 
 returns-2 : tie.Need-returns-2
-returns-2 c = simp (c .reversed .ensures, c .before .about-axis2 .ensures, c .before .before .chain-seg2 .ensures) (sym (cond-no _ _ (le-ltb _ _ (c .before .before .before .before .if1 .left)) ∙ cond-yes _ _ (lt-ltb _ _ (c .before .before .before .if2 .taken))))
+returns-2 c = let s = c .before .before .before .before .before in turned-second (s .args .segs .now) (s .args .first) (s .args .n) (s .args .k) (s .pre .0) (s .args .x) (c .before .before .before .before .if1 .left) (c .before .before .before .if2 .taken) (c .before .before .chain-seg2 .ensures) (c .before .about-axis2 .ensures) (c .reversed .ensures)
 
 no-seg-requires : tie.Need-no-seg-requires
 no-seg-requires c κs = search needs
 
 returns-3 : tie.Need-returns-3
-returns-3 c = c .no-seg .ensures ∙ sym (cond-no _ _ (le-ltb _ _ (c .before .before .if1 .left)) ∙ cond-no _ _ (le-ltb _ _ (c .before .if2 .left)))
+returns-3 c = let s = c .before .before .before in c .no-seg .ensures ∙ turned-none (s .args .segs .now) (s .args .first) (s .args .n) (s .args .k) (s .pre .0) (s .args .x) (c .before .before .if1 .left) (c .before .if2 .left)
 
 pub turned-seg-spec : {M : Type 1} → statement M
 turned-seg-spec =
