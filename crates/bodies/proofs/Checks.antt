@@ -8,11 +8,11 @@ use borrow.Author.Tests.{leb-true, ltb-false}
 use Rattle.laws.proofs.Choice.{neither, both, not-yes, not-no}
 use Rattle.laws.proofs.Finite.{first-none}
 use Rattle.bodies.specs.Description.{bodyAt}
-use Rattle.bodies.specs.Check.{isAccepted, andThen, refusedIf, coordBelow, misplaced, bodiesChecked, bodiesStand}
+use Rattle.bodies.specs.Check.{isAccepted, andThen, refusedIf, coordBelow, misplaced, bodiesChecked, bodiesLack, bodiesStand}
 use Rattle.bodies.specs.Pose.{Rooted}
 use Rattle.bodies.specs.declared.Bodies.{Bodies}
 use Rattle.bodies.specs.declared.Problem.{Problem}
-use Rattle.bodies.specs.declared.Problem.the-variants.{LimitPassed, BodyNotPlaced}
+use Rattle.bodies.specs.declared.Problem.the-variants.{LimitPassed, BodyNotPlaced, NoDirection}
 use Rattle.bodies.specs.declared.Checked.{Checked}
 use Rattle.bodies.specs.declared.Checked.the-variants.{Accepted, Refused}
 
@@ -30,6 +30,12 @@ stops-if p next e = ap (λ (b : Bool). andThen (refusedIf b p) next) e
 
 pub goes-on-if : {b : Bool} (p : Problem) (next : Checked) → b ≡ false → andThen (refusedIf b p) next ≡ next
 goes-on-if p next e = ap (λ (b : Bool). andThen (refusedIf b p) next) e
+
+-- a test of two that refuses behind a check is one test in that check and one behind it
+pub one-by-one : (c : Checked) (s t : Bool) (p : Problem) (next : Checked) → andThen c (andThen (refusedIf (s || t) p) next) ≡ andThen (andThen c (refusedIf s p)) (andThen (refusedIf t p) next)
+one-by-one Accepted true t p next = refl
+one-by-one Accepted false t p next = refl
+one-by-one (Refused x) s t p next = refl
 
 -- an answer that equals one of these checks, refused or accepted
 pub is-no : {r c : Checked} {b : Bool} → r ≡ c → b ≡ not (isAccepted r) → b ≡ true → isAccepted c ≡ false
@@ -79,9 +85,26 @@ module _ (b : Bodies) (few : b .count ≤ 15) (e : isAccepted (bodiesChecked b) 
       pass : (i : ℕ) → i < b .count → (leb (bodyAt b i .parent) i ≡ true) × (coordBelow (b .coords) (bodyAt b i .joint) ≡ true)
       pass i h = both _ _ (not-no _ (body-pass i h))
 
+-- bodies by themselves, from what is known of 3, 4 and 5
+pub stand-as : (b : Bodies) {over : Bool} {placed : Checked} {lack : Bool} → (ltb 15 (b .count) || ltb 16 (b .coords)) ≡ over → bodiesChecked b ≡ placed → bodiesLack b ≡ lack
+    → bodiesStand b ≡ andThen (refusedIf over LimitPassed) (andThen placed (refusedIf lack NoDirection))
+unfolding bodiesStand
+stand-as b {over} {placed} e f g =
+    ap (λ (t : Bool). andThen (refusedIf t LimitPassed) (andThen (bodiesChecked b) (refusedIf (bodiesLack b) NoDirection))) e
+    ∙ ap (λ (c : Checked). andThen (refusedIf over LimitPassed) (andThen c (refusedIf (bodiesLack b) NoDirection))) f
+    ∙ ap (λ (t : Bool). andThen (refusedIf over LimitPassed) (andThen placed (refusedIf t NoDirection))) g
+
+-- bodies that stand pass no limit
+pub stand-few : (b : Bodies) → bodiesStand b ≡ Accepted → (b .count ≤ 15) × (b .coords ≤ 16)
+unfolding bodiesStand
+stand-few b e =
+    let over = ltb 15 (b .count) || ltb 16 (b .coords) in
+    let a = passed (refusedIf over LimitPassed) (andThen (bodiesChecked b) (refusedIf (bodiesLack b) NoDirection)) e in
+    let n = neither (ltb 15 (b .count)) (ltb 16 (b .coords)) (no-refusal over LimitPassed (a .0)) in
+    (ltb-false 15 (b .count) (n .0), ltb-false 16 (b .coords) (n .1))
+
 pub stand-rooted : (b : Bodies) → bodiesStand b ≡ Accepted → Rooted b (b .coords)
 unfolding bodiesStand
 stand-rooted b e =
-    let a = passed (refusedIf (ltb 15 (b .count) || ltb 16 (b .coords)) LimitPassed) (bodiesChecked b) e in
-    let n = neither (ltb 15 (b .count)) (ltb 16 (b .coords)) (no-refusal (ltb 15 (b .count) || ltb 16 (b .coords)) LimitPassed (a .0)) in
-    bodies-rooted b (ltb-false 15 (b .count) (n .0)) (ap isAccepted (a .1))
+    let a = passed (refusedIf (ltb 15 (b .count) || ltb 16 (b .coords)) LimitPassed) (andThen (bodiesChecked b) (refusedIf (bodiesLack b) NoDirection)) e in
+    bodies-rooted b (stand-few b e .0) (ap isAccepted (passed (bodiesChecked b) (refusedIf (bodiesLack b) NoDirection) (a .1) .0))

@@ -1,8 +1,12 @@
--- Document 01's refusals, their numbers and places, the first that applies, and those of the bodies by themselves (3 and 4). Definitions only.
+-- Document 01's refusals, their numbers and places, the first that applies, and those of the bodies by themselves (3 to 5). Definitions only.
 use Prim.Native.Nat.{ℕ, _+_}
 use mathlib.Core.Bool.{Bool, true, false, not, cond, _&&_, _||_}
 use lib.Dec.{ltb, leb}
-use Rattle.laws.specs.Loops.{firstIn}
+use Rattle.laws.specs.Loops.{anyIn, firstIn}
+use Rattle.geometry.specs.Geometry.{dirOf}
+use Rattle.geometry.specs.declared.Dir.{Dir}
+use Rattle.geometry.specs.declared.MaybeDir.{MaybeDir}
+use Rattle.geometry.specs.declared.MaybeDir.the-variants.{SomeDir, NoDir}
 use Rattle.bodies.specs.Description.{bodyAt}
 use Rattle.bodies.specs.declared.Body.{Body}
 use Rattle.bodies.specs.declared.Joint.{Joint}
@@ -76,6 +80,25 @@ misplaced coords b i = not (leb (b .parent) i && coordBelow coords (b .joint))
 unfoldable pub bodiesChecked : Bodies → Checked
 bodiesChecked b = firstRefused (λ i. refusedIf (misplaced (b .coords) (bodyAt b i) i) (BodyNotPlaced (i + 1))) (b .count) 0
 
--- 3 and 4 of the bodies by themselves
+-- ---- 5: a slide's axis has no `Dir::new`
+abbrev pub hasNone : MaybeDir → Bool
+hasNone (SomeDir d) = false
+hasNone NoDir = true
+
+abbrev pub dirLacks : Dir → Bool
+dirLacks d = hasNone (dirOf (d .x) (d .y))
+
+abbrev pub jointLacks : Joint → Bool
+jointLacks Ground = false
+jointLacks (Revolute p c) = false
+jointLacks (Prismatic o a c) = dirLacks a
+
+unfoldable pub bodiesLack : Bodies → Bool
+bodiesLack b = anyIn (λ i. jointLacks (bodyAt b i .joint)) (b .count) 0
+
+-- 3, 4 and 5 of the bodies by themselves
 unfoldable pub bodiesStand : Bodies → Checked
-bodiesStand b = andThen (refusedIf (ltb 15 (b .count) || ltb 16 (b .coords)) LimitPassed) (bodiesChecked b)
+bodiesStand b =
+    andThen (refusedIf (ltb 15 (b .count) || ltb 16 (b .coords)) LimitPassed)
+    (andThen (bodiesChecked b)
+    (refusedIf (bodiesLack b) NoDirection))

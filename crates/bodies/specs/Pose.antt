@@ -98,7 +98,7 @@ pub record Rooted (b : Bodies) (coords : ℕ) : Type 0 where
   pub below : (i : ℕ) → i < b .count → bodyAt b i .parent ≤ i
   pub driven : (i : ℕ) → i < b .count → coordBelow coords (bodyAt b i .joint) ≡ true
 
--- the bodies by themselves: 3 and 4, then 11
+-- the bodies by themselves: 3 to 5, then 11
 abbrev pub bodiesPosed : Bodies → List (List Float) → Checked
 bodiesPosed b q = andThen (bodiesStand b) (refusedIf (not (eqb (length q) (b .coords))) PoseNotMatching)
 

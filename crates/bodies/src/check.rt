@@ -1,13 +1,14 @@
-// What is refused of the bodies by themselves (document 01, "Refused, first that applies", 3 and 4), and the number and place of a refusal.
+// What is refused of the bodies by themselves (document 01, "Refused, first that applies", 3 to 5), and the number and place of a refusal.
 ghost use mathlib.Core.Path.{_≡_};
 ghost use Prim.Native.Nat.{_≤_};
-ghost use Rattle.bodies.specs.Check.{numberOf, placeOf, coordBelow, misplaced, bodiesChecked, bodiesStand};
+ghost use Rattle.bodies.specs.Check.{numberOf, placeOf, coordBelow, misplaced, bodiesChecked, dirLacks, jointLacks, bodiesLack, bodiesStand};
 use super::Bodies;
 use super::Body;
 use super::Checked;
 use super::Joint;
 use super::Problem;
 use geometry::Dir;
+use geometry::MaybeDir;
 use geometry::Point;
 
 impl Problem {
@@ -96,12 +97,65 @@ fn bodies_checked(b: Bodies) -> Checked
     Checked::Accepted
 }
 
-// 3 and 4 of the bodies by themselves.
+// ---- 5: a slide's axis has no `Dir::new`
+
+// Whether a direction in a value has no `Dir::new`.
+pub fn dir_lacks(d: Dir) -> bool
+    ensures { λ r. ⌜ r ≡ dirLacks d ⌝ }
+{
+    let found = Dir::new(d.x, d.y);
+    match found {
+        MaybeDir::SomeDir(_) => false,
+        MaybeDir::NoDir => true,
+    }
+}
+
+fn joint_lacks(j: Joint) -> bool
+    ensures { λ r. ⌜ r ≡ jointLacks j ⌝ }
+{
+    match j {
+        Joint::Ground => false,
+        Joint::Revolute { pivot: _, coord: _ } => false,
+        Joint::Prismatic {
+            origin: _,
+            axis,
+            coord: _,
+        } => dir_lacks(axis),
+    }
+}
+
+fn bodies_lack(b: Bodies) -> bool
+    requires { ⌜ b .count ≤ 15 ⌝ }
+    ensures { λ r. ⌜ r ≡ bodiesLack b ⌝ }
+{
+    let n = b.count;
+    let mut i: usize = 0;
+    while i < n {
+        let c = b.body[i];
+        let j = c.joint;
+        i += 1;
+        if joint_lacks(j) {
+            return true;
+        }
+    }
+    false
+}
+
+// 3, 4 and 5 of the bodies by themselves.
 pub fn bodies_stand(b: Bodies) -> Checked
     ensures { λ r. ⌜ r ≡ bodiesStand b ⌝ }
 {
     if (15 < b.count) | (16 < b.coords) {
         return Checked::Refused(Problem::LimitPassed);
     }
-    bodies_checked(b)
+    let placed = bodies_checked(b);
+    match placed {
+        Checked::Refused(p) => Checked::Refused(p),
+        Checked::Accepted => {
+            if bodies_lack(b) {
+                return Checked::Refused(Problem::NoDirection);
+            }
+            Checked::Accepted
+        }
+    }
 }

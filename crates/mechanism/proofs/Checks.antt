@@ -8,7 +8,7 @@ use borrow.Author.Tests.{ltb-false, lt-ltb, le-ltb}
 use Rattle.laws.proofs.Choice.{and-yes, and-no, or-no, neither, both, not-yes}
 use Rattle.laws.proofs.Finite.{any-none, any-all, first-none}
 use Rattle.laws.proofs.Sums.{sum-more, sum-mono}
-use Rattle.bodies.proofs.Checks.{stops, goes-on, stops-if, goes-on-if, refused-not, passed, passed-if, accepted-is}
+use Rattle.bodies.proofs.Checks.{stops, goes-on, stops-if, goes-on-if, one-by-one, refused-not, passed, passed-if, accepted-is, stand-as}
 use Rattle.mechanism.specs.Pose.{poseChecked}
 use Rattle.bodies.specs.Pose.{bodiesPosed}
 use mathlib.Core.List.{List}
@@ -16,8 +16,8 @@ use lib.Ieee.{Float}
 use lib.ListN.{length}
 use Rattle.mechanism.proofs.Worked as worked
 use Rattle.mechanism.specs.Description.{partAt, pairAt, segsOf, startOfPart, sideLength}
-use Rattle.bodies.specs.Check.{isAccepted, andThen, refusedIf, bodiesChecked, bodiesStand}
-use Rattle.mechanism.specs.Check.{sideOver, pairOver, partsOver, pairsOver, limitPassed, directionMissing, partsChecked, partDraws, withDrawn, withRange, sideBody, sidesChecked, pairsChecked, checkOf, thenCalled, callChecked, FewParts, FewPairs, Few}
+use Rattle.bodies.specs.Check.{isAccepted, andThen, refusedIf, bodiesChecked, bodiesLack, bodiesStand}
+use Rattle.mechanism.specs.Check.{sideOver, pairOver, partsOver, pairsOver, limitPassed, partsLack, outlinesLack, directionMissing, partsChecked, partDraws, withDrawn, withRange, sideBody, sidesChecked, pairsChecked, checkOf, thenCalled, callChecked, FewParts, FewPairs, Few}
 use Rattle.mechanism.specs.declared.Parts.{Parts}
 use Rattle.mechanism.specs.declared.Pairs.{Pairs}
 use Rattle.mechanism.specs.declared.Mechanism.{Mechanism}
@@ -99,47 +99,47 @@ module _ (ps : Parts) (pair : ℕ) (s : Side) (r : SurfaceRef) where
 
 -- ---- where the check of a description ends
 module _ (m : Mechanism) where
+  -- 5 of the parts and their outlines
+  abbrev pub drawnLack : Bool
+  drawnLack = partsLack (m .parts) || outlinesLack (m .outlines) (startOfPart (m .parts) (m .parts .count))
+
   abbrev fromParts : Checked
   fromParts = andThen (partsChecked (m .bodies .count) (m .parts) (m .outlines)) (pairsChecked (m .parts) (m .pairs))
 
   abbrev fromDirections : Checked
-  fromDirections = andThen (refusedIf (directionMissing m) NoDirection) fromParts
-
-  abbrev fromBodies : Checked
-  fromBodies = andThen (bodiesChecked (m .bodies)) fromDirections
+  fromDirections = andThen (refusedIf drawnLack NoDirection) fromParts
 
   pub at-limits : limitPassed m ≡ true → checkOf m ≡ Refused LimitPassed
   unfolding checkOf
-  at-limits e = stops-if LimitPassed fromBodies e
+  at-limits e = stops-if LimitPassed (andThen (bodiesChecked (m .bodies)) (andThen (refusedIf (directionMissing m) NoDirection) fromParts)) e
 
-  past-limits : limitPassed m ≡ false → checkOf m ≡ fromBodies
-  unfolding checkOf
-  past-limits e = goes-on-if LimitPassed fromBodies e
+  -- the bodies by themselves come first, and 5 of them is asked with 4
+  past-limits : limitPassed m ≡ false → checkOf m ≡ andThen (bodiesStand (m .bodies)) fromDirections
+  unfolding checkOf limitPassed
+  past-limits e =
+      goes-on-if LimitPassed (andThen (bodiesChecked (m .bodies)) (andThen (refusedIf (directionMissing m) NoDirection) fromParts)) e
+      ∙ one-by-one (bodiesChecked (m .bodies)) (bodiesLack (m .bodies)) drawnLack NoDirection fromParts
+      ∙ ap (λ (c : Checked). andThen c fromDirections) (sym (stand-as (m .bodies) (neither (ltb 15 (m .bodies .count) || ltb 16 (m .bodies .coords)) (partsOver (m .parts) || pairsOver (m .pairs)) e .0) refl refl))
 
-  pub at-bodies : limitPassed m ≡ false → isAccepted (bodiesChecked (m .bodies)) ≡ false → checkOf m ≡ bodiesChecked (m .bodies)
-  at-bodies e f = past-limits e ∙ stops (bodiesChecked (m .bodies)) fromDirections f
+  pub at-bodies : limitPassed m ≡ false → isAccepted (bodiesStand (m .bodies)) ≡ false → checkOf m ≡ bodiesStand (m .bodies)
+  at-bodies e f = past-limits e ∙ stops (bodiesStand (m .bodies)) fromDirections f
 
-  past-bodies : limitPassed m ≡ false → isAccepted (bodiesChecked (m .bodies)) ≡ true → checkOf m ≡ fromDirections
-  past-bodies e f = past-limits e ∙ goes-on (bodiesChecked (m .bodies)) fromDirections f
+  past-bodies : limitPassed m ≡ false → isAccepted (bodiesStand (m .bodies)) ≡ true → checkOf m ≡ fromDirections
+  past-bodies e f = past-limits e ∙ goes-on (bodiesStand (m .bodies)) fromDirections f
 
-  pub at-directions : limitPassed m ≡ false → isAccepted (bodiesChecked (m .bodies)) ≡ true → directionMissing m ≡ true → checkOf m ≡ Refused NoDirection
+  pub at-directions : limitPassed m ≡ false → isAccepted (bodiesStand (m .bodies)) ≡ true → drawnLack ≡ true → checkOf m ≡ Refused NoDirection
   at-directions e f g = past-bodies e f ∙ stops-if NoDirection fromParts g
 
-  past-directions : limitPassed m ≡ false → isAccepted (bodiesChecked (m .bodies)) ≡ true → directionMissing m ≡ false → checkOf m ≡ fromParts
+  past-directions : limitPassed m ≡ false → isAccepted (bodiesStand (m .bodies)) ≡ true → drawnLack ≡ false → checkOf m ≡ fromParts
   past-directions e f g = past-bodies e f ∙ goes-on-if NoDirection fromParts g
 
-  pub at-parts : limitPassed m ≡ false → isAccepted (bodiesChecked (m .bodies)) ≡ true → directionMissing m ≡ false
+  pub at-parts : limitPassed m ≡ false → isAccepted (bodiesStand (m .bodies)) ≡ true → drawnLack ≡ false
       → isAccepted (partsChecked (m .bodies .count) (m .parts) (m .outlines)) ≡ false → checkOf m ≡ partsChecked (m .bodies .count) (m .parts) (m .outlines)
   at-parts e f g h = past-directions e f g ∙ stops (partsChecked (m .bodies .count) (m .parts) (m .outlines)) (pairsChecked (m .parts) (m .pairs)) h
 
-  pub at-pairs : limitPassed m ≡ false → isAccepted (bodiesChecked (m .bodies)) ≡ true → directionMissing m ≡ false
+  pub at-pairs : limitPassed m ≡ false → isAccepted (bodiesStand (m .bodies)) ≡ true → drawnLack ≡ false
       → isAccepted (partsChecked (m .bodies .count) (m .parts) (m .outlines)) ≡ true → checkOf m ≡ pairsChecked (m .parts) (m .pairs)
   at-pairs e f g h = past-directions e f g ∙ goes-on (partsChecked (m .bodies .count) (m .parts) (m .outlines)) (pairsChecked (m .parts) (m .pairs)) h
-
--- where no limit is passed, the bodies by themselves are refused as 4 refuses them
-pub stand-is : (m : Mechanism) → limitPassed m ≡ false → bodiesStand (m .bodies) ≡ bodiesChecked (m .bodies)
-unfolding bodiesStand limitPassed
-stand-is m e = goes-on-if LimitPassed (bodiesChecked (m .bodies)) (neither (ltb 15 (m .bodies .count) || ltb 16 (m .bodies .coords)) (partsOver (m .parts) || pairsOver (m .pairs)) e .0)
 
 -- ---- where the list of a call ends, behind the check c of its description
 module _ (c : Checked) (fits known room : Bool) where
@@ -201,25 +201,25 @@ module _ (m : Mechanism) (e : checkOf m ≡ Accepted) where
   pub accepted-few : Few m
   accepted-few = few m no-limit
 
-  bodies-pass : isAccepted (bodiesChecked (m .bodies)) ≡ true
-  bodies-pass = go (isAccepted (bodiesChecked (m .bodies))) refl
+  bodies-pass : isAccepted (bodiesStand (m .bodies)) ≡ true
+  bodies-pass = go (isAccepted (bodiesStand (m .bodies))) refl
     where
-      go : (b : Bool) → isAccepted (bodiesChecked (m .bodies)) ≡ b → b ≡ true
+      go : (b : Bool) → isAccepted (bodiesStand (m .bodies)) ≡ b → b ≡ true
       go true h = refl
       go false h = absurd (false≢true (sym h ∙ ap isAccepted (sym (at-bodies m no-limit h) ∙ e)))
 
   pub accepted-stand : bodiesStand (m .bodies) ≡ Accepted
-  accepted-stand = stand-is m no-limit ∙ accepted-is (bodiesChecked (m .bodies)) bodies-pass
+  accepted-stand = accepted-is (bodiesStand (m .bodies)) bodies-pass
 
   -- no side passes a limit
   pub accepted-sides : (i : ℕ) → i < m .pairs .count → (sideOver (pairAt (m .pairs) i .a) ≡ false) × (sideOver (pairAt (m .pairs) i .b) ≡ false)
   unfolding limitPassed
   accepted-sides i h = sides-few (m .pairs) (neither (partsOver (m .parts)) _ (neither (ltb 15 (m .bodies .count) || ltb 16 (m .bodies .coords)) _ no-limit .1) .1) i h
 
-  directions-pass : directionMissing m ≡ false
-  directions-pass = go (directionMissing m) refl
+  directions-pass : drawnLack m ≡ false
+  directions-pass = go (drawnLack m) refl
     where
-      go : (b : Bool) → directionMissing m ≡ b → b ≡ false
+      go : (b : Bool) → drawnLack m ≡ b → b ≡ false
       go true h = absurd (refused-not NoDirection (sym (at-directions m no-limit bodies-pass h) ∙ e))
       go false h = refl
 

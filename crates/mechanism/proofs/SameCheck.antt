@@ -12,12 +12,12 @@ use lib.Seq.{sets}
 use Rattle.laws.specs.Loops.{anyIn, firstIn}
 use Rattle.laws.proofs.Choice.{or-yes, cond-no}
 use Rattle.laws.proofs.Sums.{sum-part}
-use Rattle.bodies.specs.Check.{isAccepted, andThen, refusedIf, firstRefused, bodiesChecked}
+use Rattle.bodies.specs.Check.{isAccepted, andThen, refusedIf, firstRefused, bodiesChecked, bodiesLack}
 use Rattle.bodies.specs.declared.Checked.{Checked}
 use Rattle.bodies.specs.declared.Checked.the-variants.{Accepted}
 use Rattle.bodies.specs.declared.Problem.the-variants.{LimitPassed, NoDirection, PartOnNoSuchBody, OutlineNotClosed}
 use Rattle.mechanism.specs.Description.{partAt, segsOf, startOfPart}
-use Rattle.mechanism.specs.Check.{partsOver, pairsOver, limitPassed, segLacks, bodiesLack, partsLack, outlinesLack, segOpen, outlineOpen, partsChecked, pairsChecked, checkOf}
+use Rattle.mechanism.specs.Check.{partsOver, pairsOver, limitPassed, segLacks, partsLack, outlinesLack, segOpen, outlineOpen, partsChecked, pairsChecked, checkOf}
 use Rattle.mechanism.specs.Segments.{outlinesIn, described, segRows, segsFit, segsCounted, SameSegs}
 use Rattle.mechanism.specs.declared.Mechanism.{Mechanism}
 use Rattle.mechanism.specs.declared.Outlines.{Outlines}

@@ -11,8 +11,8 @@ use Rattle.geometry.specs.declared.Point.{Point}
 use Rattle.geometry.specs.declared.Seg.the-variants.{Line}
 use Rattle.bodies.specs.Description.{noBody}
 use Rattle.mechanism.specs.Description.{noPart, noSeg, noRange, noSurface, noPair}
-use Rattle.bodies.specs.Check.{bodiesChecked}
-use Rattle.mechanism.specs.Check.{partsOver, pairsOver, limitPassed, bodiesLack, partsLack, outlinesLack, outlineOpen, partsChecked, rangeDrawn, sideBody, pairsChecked, checkOf, callChecked}
+use Rattle.bodies.specs.Check.{bodiesChecked, bodiesLack}
+use Rattle.mechanism.specs.Check.{partsOver, pairsOver, limitPassed, partsLack, outlinesLack, outlineOpen, partsChecked, rangeDrawn, sideBody, pairsChecked, checkOf, callChecked}
 use Rattle.bodies.specs.declared.Body.{Body}
 use Rattle.bodies.specs.declared.Joint.the-variants.{Ground}
 use Rattle.bodies.specs.declared.Bodies.{Bodies}

@@ -12,7 +12,7 @@ use Rattle.geometry.specs.declared.MaybeDir.{MaybeDir}
 use Rattle.geometry.specs.declared.MaybeDir.the-variants.{SomeDir, NoDir}
 use Rattle.geometry.specs.declared.Seg.{Seg}
 use Rattle.geometry.specs.declared.Seg.the-variants.{Line, Arc}
-use Rattle.bodies.specs.Check.{andThen, refusedIf, firstRefused, bodiesChecked}
+use Rattle.bodies.specs.Check.{andThen, refusedIf, firstRefused, bodiesChecked, dirLacks, bodiesLack}
 use Rattle.bodies.specs.Description.{bodyAt}
 use Rattle.mechanism.specs.Description.{partAt, pairAt, rangeAt, segAt, segsOf, startOfPart, silhouetteLength, sideLength}
 use Rattle.bodies.specs.declared.Joint.{Joint}
@@ -56,18 +56,6 @@ unfoldable pub limitPassed : Mechanism → Bool
 limitPassed m = limitsPassed (m .bodies) (m .parts) (m .pairs)
 
 -- ---- 5: an axis or an arc's direction has no `Dir::new`, or a revolved axis is NaN
-abbrev pub hasNone : MaybeDir → Bool
-hasNone (SomeDir d) = false
-hasNone NoDir = true
-
-abbrev pub noDir : Dir → Bool
-noDir d = hasNone (dirOf (d .x) (d .y))
-
-abbrev pub jointLacks : Joint → Bool
-jointLacks Ground = false
-jointLacks (Revolute p c) = false
-jointLacks (Prismatic o a c) = noDir a
-
 abbrev pub sweepLacks : Sweep → Bool
 sweepLacks (Extruded w a) = false
 sweepLacks (Revolved x) = isNan x
@@ -76,10 +64,7 @@ sweepLacks (Oval w) = false
 
 abbrev pub segLacks : Seg → Bool
 segLacks (Line a b) = false
-segLacks (Arc c r from to) = noDir from || noDir to
-
-unfoldable pub bodiesLack : Bodies → Bool
-bodiesLack b = anyIn (λ i. jointLacks (bodyAt b i .joint)) (b .count) 0
+segLacks (Arc c r from to) = dirLacks from || dirLacks to
 
 unfoldable pub partsLack : Parts → Bool
 partsLack p = anyIn (λ i. sweepLacks (partAt p i .sweep)) (p .count) 0

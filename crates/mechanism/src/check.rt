@@ -5,7 +5,7 @@ ghost use Prim.Native.Nat.{_+_, _≤_, _<_};
 ghost use Rattle.mechanism.specs.Description.{startOfPart, silhouetteLength, rangeLength, turnedLength};
 ghost use Rattle.bodies.specs.Check.{isAccepted};
 ghost use Rattle.mechanism.specs.Segments.{outlinesIn, described, segsCounted};
-ghost use Rattle.mechanism.specs.Check.{sideOver, pairOver, partsOver, pairsOver, limitsPassed, noDir, jointLacks, sweepLacks, segLacks, bodiesLack, partsLack, outlinesLack, pointFinite, samePoint, segOpen, outlineOpen, partChecked, partsChecked, partDraws, isWrong, withBody, withDrawn, sideEnd, sideBody, sidesChecked, pairsChecked, checkOf, thenCalled, callChecked, isOn, sideDrawn, pairDrawn, FewParts, FewPairs};
+ghost use Rattle.mechanism.specs.Check.{sideOver, pairOver, partsOver, pairsOver, limitsPassed, sweepLacks, segLacks, partsLack, outlinesLack, pointFinite, samePoint, segOpen, outlineOpen, partChecked, partsChecked, partDraws, isWrong, withBody, withDrawn, sideEnd, sideBody, sidesChecked, pairsChecked, checkOf, thenCalled, callChecked, isOn, sideDrawn, pairDrawn, FewParts, FewPairs};
 use super::Mechanism;
 use super::Pairs;
 use super::Parts;
@@ -20,11 +20,10 @@ use super::segments::seg_at;
 use bodies::Bodies;
 use bodies::Body;
 use bodies::Checked;
-use bodies::Joint;
 use bodies::Problem;
 use bodies::check::bodies_stand;
+use bodies::check::dir_lacks;
 use geometry::Dir;
-use geometry::MaybeDir;
 use geometry::Point;
 use geometry::Seg;
 use ieee::num::is_finite;
@@ -114,31 +113,7 @@ fn limit_passed(b: Bodies, p: Parts, q: Pairs) -> bool
     ((15 < b.count) | (16 < b.coords)) | (parts_over(p) | pairs_over(q))
 }
 
-// ---- 5: an axis or an arc's direction has no `Dir::new`, or a revolved axis is NaN
-
-fn no_dir(d: Dir) -> bool
-    ensures { λ r. ⌜ r ≡ noDir d ⌝ }
-{
-    let found = Dir::new(d.x, d.y);
-    match found {
-        MaybeDir::SomeDir(_) => false,
-        MaybeDir::NoDir => true,
-    }
-}
-
-fn joint_lacks(j: Joint) -> bool
-    ensures { λ r. ⌜ r ≡ jointLacks j ⌝ }
-{
-    match j {
-        Joint::Ground => false,
-        Joint::Revolute { pivot: _, coord: _ } => false,
-        Joint::Prismatic {
-            origin: _,
-            axis,
-            coord: _,
-        } => no_dir(axis),
-    }
-}
+// ---- 5: an arc's direction has no `Dir::new`, or a revolved axis is NaN
 
 fn sweep_lacks(s: Sweep) -> bool
     ensures { λ r. ⌜ r ≡ sweepLacks s ⌝ }
@@ -164,25 +139,8 @@ fn seg_lacks(s: Seg) -> bool
             r: _,
             from,
             to,
-        } => no_dir(from) | no_dir(to),
+        } => dir_lacks(from) | dir_lacks(to),
     }
-}
-
-fn bodies_lack(b: Bodies) -> bool
-    requires { ⌜ b .count ≤ 15 ⌝ }
-    ensures { λ r. ⌜ r ≡ bodiesLack b ⌝ }
-{
-    let n = b.count;
-    let mut i: usize = 0;
-    while i < n {
-        let c = b.body[i];
-        let j = c.joint;
-        i += 1;
-        if joint_lacks(j) {
-            return true;
-        }
-    }
-    false
 }
 
 fn parts_lack(p: Parts) -> bool
@@ -496,11 +454,12 @@ pub fn segs_counted(p: Parts) -> usize
     segs_in_all(p)
 }
 
-fn direction_missing(b: Bodies, p: Parts, segs: &[SegRow]) -> bool
-    requires { ⌜ (b .count ≤ 15) × FewParts p ⌝ }
-    ensures { λ r. ⌜ r ≡ bodiesLack b || (partsLack p || outlinesLack (outlinesIn (now (segs .entry))) (startOfPart p (p .count))) ⌝ }
+// 5 of the parts and their outlines.
+fn direction_missing(p: Parts, segs: &[SegRow]) -> bool
+    requires { ⌜ FewParts p ⌝ }
+    ensures { λ r. ⌜ r ≡ partsLack p || outlinesLack (outlinesIn (now (segs .entry))) (startOfPart p (p .count)) ⌝ }
 {
-    bodies_lack(b) | (parts_lack(p) | outlines_lack(segs, segs_in_all(p)))
+    parts_lack(p) | outlines_lack(segs, segs_in_all(p))
 }
 
 // Whether a description whose outlines stand in rows is accepted, or the first refusal that applies.
@@ -514,7 +473,7 @@ pub fn check_in(b: Bodies, p: Parts, segs: &[SegRow], q: Pairs) -> Checked
     if is_refused(placed) {
         return placed;
     }
-    if direction_missing(b, p, segs) {
+    if direction_missing(p, segs) {
         return Checked::Refused(Problem::NoDirection);
     }
     let drawn = parts_checked(b.count, p, segs);

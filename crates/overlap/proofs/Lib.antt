@@ -8,4 +8,3 @@ pub mod Answers
 pub mod Deepest
 pub mod Drawn
 pub mod PairRows
-pub mod Asked

@@ -1,6 +1,6 @@
 -- How deep parts stand in one another, over a prepared description. Definitions only.
 use Prim.Native.Nat.{ℕ}
-use mathlib.Core.Bool.{cond, not}
+use mathlib.Core.Bool.{cond, true}
 use mathlib.Core.List.{List, map}
 use lib.Dec.{eqb, ltb}
 use lib.Ieee.{Float}
@@ -9,13 +9,13 @@ use Rattle.laws.specs.Loops.{filterIn}
 use Rattle.ieee.specs.Consts.{zeroF}
 use Rattle.ieee.specs.Num.{maxOf}
 use Rattle.geometry.specs.declared.Point.{Point}
-use Rattle.bodies.specs.Check.{andThen, refusedIf}
+use Rattle.bodies.specs.Check.{andThen, refusedIf, bodiesStand}
 use Rattle.bodies.specs.Pose.{placementAt, worldOf, poseFits}
 use Rattle.bodies.specs.declared.Bodies.{Bodies}
 use Rattle.bodies.specs.declared.Checked.{Checked}
-use Rattle.bodies.specs.declared.Problem.the-variants.{LimitPassed, PoseNotMatching, NoSuchThing}
+use Rattle.bodies.specs.declared.Problem.the-variants.{LimitPassed}
 use Rattle.bodies.specs.declared.pose.Pose.{Pose}
-use Rattle.mechanism.specs.Check.{answerOf}
+use Rattle.mechanism.specs.Check.{thenCalled, answerOf}
 use Rattle.mechanism.specs.declared.FloatAnswer.{FloatAnswer}
 use Rattle.material.specs.Material.{Material, depthOf, deepestOf}
 use Rattle.strips.specs.Strips.{partAt, sideAt, pointAt, rowA, rowB, rowOfMaterial, rowOfSampled}
@@ -51,12 +51,9 @@ pairOverlapIn drawn sampled parts sides centers choices q i =
     cond (eqb (sideAt sides (rowA i) .geometry) 0) (featuresOverlapIn drawn sampled parts choices q i) (centerOverlapIn drawn parts choices sides centers q i)
 
 -- ---- the answer: a number, or the first refusal that applies
--- 3, 11 and 12 of a question about pair i of n; 3 to 10 of the description were answered when it was prepared
+-- 3, 4 and 5 of the bodies, 11 and 12 of a question about pair i of n; the rest of 3 to 10 was answered when the description was prepared
 abbrev pub askChecked : Bodies → ℕ → Pose → ℕ → Checked
-askChecked b n q i =
-    andThen (refusedIf (ltb 16 n) LimitPassed)
-    (andThen (refusedIf (not (poseFits b q)) PoseNotMatching)
-    (refusedIf (not (ltb i n)) NoSuchThing))
+askChecked b n q i = andThen (refusedIf (ltb 16 n) LimitPassed) (thenCalled (bodiesStand b) (poseFits b q) (ltb i n) true)
 
 unfoldable pub pairOverlapAnswerIn : List (List Float) → List (List Float) → List (List ℕ) → List (List ℕ) → List (List Float) → List (List ℕ) → Bodies → ℕ → Pose → ℕ → FloatAnswer
 pairOverlapAnswerIn drawn sampled parts sides centers choices b n q i = answerOf (askChecked b n q i) (pairOverlapIn drawn sampled parts sides centers choices q i)

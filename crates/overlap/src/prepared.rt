@@ -11,9 +11,11 @@ ghost use Rattle.material.specs.Range.{Covers};
 ghost use Rattle.bodies.specs.Pose.{worldOf};
 ghost use Rattle.strips.specs.Strips.{pointAt, rowOfMaterial, rowOfSampled};
 ghost use Rattle.drawing.specs.Prepared.{allDrawn, choiceAt, materialIn};
-ghost use Rattle.overlap.specs.Prepared.{sunkIn, pairOverlapIn, pairOverlapAnswerIn};
+ghost use Rattle.overlap.specs.Prepared.{sunkIn, pairOverlapIn, askChecked, pairOverlapAnswerIn};
 use bodies::Bodies;
+use bodies::Checked;
 use bodies::Problem;
+use bodies::check::bodies_stand;
 use bodies::pose::Placement;
 use bodies::pose::Pose;
 use bodies::pose::placement_at;
@@ -32,6 +34,7 @@ use material::deeper_square;
 use material::depth;
 use material::y_range;
 use mechanism::FloatAnswer;
+use mechanism::check::then_called;
 use strips::ChoiceRow;
 use strips::PartFacts;
 use strips::PartRow;
@@ -284,6 +287,16 @@ pub fn pair_overlap_in(
     0.0
 }
 
+// What is refused of a question about pair `pair` of `pairs`.
+fn ask_checked(bodies: Bodies, pairs: usize, q: Pose, pair: usize) -> Checked
+    ensures { λ r. ⌜ r ≡ askChecked bodies pairs q pair ⌝ }
+{
+    if 16 < pairs {
+        return Checked::Refused(Problem::LimitPassed);
+    }
+    then_called(bodies_stand(bodies), q.fits(bodies), pair < pairs, true)
+}
+
 // The same of pair `pair` of `pairs`, or the first refusal that applies.
 pub fn pair_overlap(
     bodies: Bodies,
@@ -299,23 +312,18 @@ pub fn pair_overlap(
 ) -> FloatAnswer
     ensures { λ r. ⌜ r ≡ pairOverlapAnswerIn (now (drawn .entry)) (now (sampled .entry)) (now (parts .entry)) (now (sides .entry)) (now (centers .entry)) (now (choices .entry)) bodies pairs q pair ⌝ }
 {
-    if 16 < pairs {
-        return FloatAnswer::NoFloat(Problem::LimitPassed);
+    let c = ask_checked(bodies, pairs, q, pair);
+    match c {
+        Checked::Refused(p) => FloatAnswer::NoFloat(p),
+        Checked::Accepted => FloatAnswer::IsFloat(pair_overlap_in(
+            drawn,
+            sampled,
+            parts,
+            sides,
+            centers,
+            choices,
+            q,
+            pair,
+        )),
     }
-    if q.fits(bodies) {
-        if pair < pairs {
-            return FloatAnswer::IsFloat(pair_overlap_in(
-                drawn,
-                sampled,
-                parts,
-                sides,
-                centers,
-                choices,
-                q,
-                pair,
-            ));
-        }
-        return FloatAnswer::NoFloat(Problem::NoSuchThing);
-    }
-    FloatAnswer::NoFloat(Problem::PoseNotMatching)
 }

@@ -2,7 +2,7 @@
 use Prim.Native.Nat.{ℕ, zero, suc, _+_, _*_, _<_, _≤_}
 use native.Mathlib.Omega.{arith}
 use mathlib.Core.Path.{_≡_, refl, sym, ap, ap₂, subst, _∙_}
-use mathlib.Core.Bool.{Bool, true, false, not, _&&_, false≢true}
+use mathlib.Core.Bool.{Bool, true, false, not, _&&_}
 use mathlib.Core.List.{List, _∷_, _++_, map}
 use lib.Dec.{leb, ltb, eqb}
 use lib.ListN.{length}
@@ -14,8 +14,8 @@ use Rattle.laws.specs.Loops.{anyIn}
 use Rattle.laws.proofs.Choice.{or-no}
 use Rattle.laws.proofs.Finite.{any-all}
 use Rattle.laws.proofs.Sums.{sum-same}
-use Rattle.bodies.specs.Check.{isAccepted, andThen, refusedIf, bodiesChecked, bodiesStand}
-use Rattle.mechanism.specs.Check.{limitPassed, checkOf, callChecked, answerOf}
+use Rattle.bodies.specs.Check.{isAccepted, andThen, refusedIf, bodiesStand}
+use Rattle.mechanism.specs.Check.{checkOf, thenCalled, callChecked, answerOf}
 use Rattle.mechanism.specs.Description.{pairAt}
 use Rattle.bodies.specs.Pose.{bodiesPosed, poseFits}
 use Rattle.mechanism.specs.Pose.{poseChecked}
@@ -24,13 +24,12 @@ use Rattle.mechanism.specs.Rows as Rows
 use Rattle.bodies.specs.declared.Checked.{Checked}
 use Rattle.bodies.specs.declared.Checked.the-variants.{Accepted, Refused}
 use Rattle.mechanism.specs.declared.Mechanism.{Mechanism}
-use Rattle.bodies.specs.declared.Problem.{Problem}
 use Rattle.bodies.specs.declared.Problem.the-variants.{LimitPassed, PoseNotMatching, NoSuchThing, TooFewRows}
 use Rattle.mechanism.specs.declared.bearing.MaybeBearing.{MaybeBearing}
 use Rattle.bodies.specs.declared.pose.Pose.{Pose}
 use Rattle.mechanism.specs.declared.rows.Row.{Row}
 use Rattle.bodies.proofs.Checks.{goes-on, goes-on-if}
-use Rattle.mechanism.proofs.Checks.{accepted-few}
+use Rattle.mechanism.proofs.Checks.{accepted-few, accepted-stand, posed-bodies}
 use Rattle.sides.specs.Contacts.{pairBound, mechanismBound}
 use Rattle.sides.specs.declared.contacts.PairFeatures.{PairFeatures}
 use Rattle.strips.specs.Strips.{sideAt, rowA, rowB}
@@ -64,34 +63,11 @@ list-in f g zero j e = refl
 list-in {A} f g (suc k) j e = ap₂ (λ (a : A) (l : List A). a ∷ l) (e j (omega arith)) (list-in f g k (suc j) (λ i h. e i (omega arith)))
 
 -- ---- checks
-passed : (c next : Checked) → andThen c next ≡ Accepted → (c ≡ Accepted) × (next ≡ Accepted)
-passed Accepted next e = (refl, e)
-passed (Refused p) next e = absurd (false≢true (ap isAccepted e))
-
-then-nothing : (b : Bool) (p : Problem) → andThen (refusedIf b p) Accepted ≡ refusedIf b p
-then-nothing true p = refl
-then-nothing false p = refl
-
--- what is asked of a pose and a pair; where there is no such pair the number does not matter
-abbrev asked : Bool → Bool → Checked
-asked fits known = andThen (refusedIf (not fits) PoseNotMatching) (refusedIf (not known) NoSuchThing)
-
-no-pair : (fits : Bool) (x y : Float) → answerOf (asked fits false) x ≡ answerOf (asked fits false) y
-no-pair true x y = refl
-no-pair false x y = refl
-
-asked-whole : (fits known : Bool) → asked fits known ≡ andThen (refusedIf (not fits) PoseNotMatching) (andThen (refusedIf (not known) NoSuchThing) Accepted)
-asked-whole true known = sym (then-nothing (not known) NoSuchThing)
-asked-whole false known = refl
-
--- the bodies of an accepted description stand
-stand : (m : Mechanism) → checkOf m ≡ Accepted → bodiesStand (m .bodies) ≡ Accepted
-unfolding checkOf bodiesStand
-stand m e =
-    let few = accepted-few m e in
-    let a = passed (refusedIf (limitPassed m) LimitPassed) _ e in
-    let b = passed (bodiesChecked (m .bodies)) _ (a .1) in
-    goes-on-if LimitPassed (bodiesChecked (m .bodies)) (or-no (ltb 16 (m .bodies .coords)) (le-ltb 15 (m .bodies .count) (few .bodies)) ∙ le-ltb 16 (m .bodies .coords) (few .coords)) ∙ b .0
+-- where there is no such pair the number does not matter
+no-pair : (c : Checked) (fits : Bool) (x y : Float) → answerOf (thenCalled c fits false true) x ≡ answerOf (thenCalled c fits false true) y
+no-pair Accepted true x y = refl
+no-pair Accepted false x y = refl
+no-pair (Refused p) fits x y = refl
 
 module _ (m : Mechanism) (e : checkOf m ≡ Accepted) {faces : List (List Float)} {fnames : List (List ℕ)} {discs : List (List Float)} {dnames sides : List (List ℕ)} {centers : List (List Float)} {choices : List (List ℕ)} {drawn sampled : List (List Float)}
     (t : Holds m faces fnames discs dnames sides centers choices drawn sampled) where
@@ -155,7 +131,7 @@ module _ (m : Mechanism) (e : checkOf m ≡ Accepted) {faces : List (List Float)
     checked-as =
         let here = from (anyIn (fallsOff (m .bodies .count) sides) (m .pairs .count) 0) (boundsIn sides (m .pairs .count)) in
         goes-on-if LimitPassed (andThen (bodiesStand (m .bodies)) here) few-pairs
-        ∙ goes-on (bodiesStand (m .bodies)) here (ap isAccepted (stand m e))
+        ∙ goes-on (bodiesStand (m .bodies)) here (ap isAccepted (accepted-stand m e))
         ∙ ap₂ from none-off all-bounds
         ∙ sym (goes-on (checkOf m) (from false (mechanismBound m)) (ap isAccepted e))
 
@@ -164,25 +140,22 @@ module _ (m : Mechanism) (e : checkOf m ≡ Accepted) {faces : List (List Float)
     abbrev fits : Bool
     fits = poseFits (m .bodies) q
 
-    ask-goes : askChecked (m .bodies) (m .pairs .count) q i ≡ asked fits (ltb i (m .pairs .count))
-    ask-goes = goes-on-if LimitPassed (asked fits (ltb i (m .pairs .count))) few-pairs
-
-    call-goes : asked fits (ltb i (m .pairs .count)) ≡ callChecked m fits (ltb i (m .pairs .count)) true
-    call-goes =
-        let rest = andThen (refusedIf (not fits) PoseNotMatching) (andThen (refusedIf (not (ltb i (m .pairs .count))) NoSuchThing) Accepted) in
-        asked-whole fits (ltb i (m .pairs .count)) ∙ sym (goes-on (checkOf m) rest (ap isAccepted e))
+    -- the check of an accepted description and that of its bodies both accept
+    ask-goes : askChecked (m .bodies) (m .pairs .count) q i ≡ callChecked m fits (ltb i (m .pairs .count)) true
+    ask-goes =
+        goes-on-if LimitPassed (thenCalled (bodiesStand (m .bodies)) fits (ltb i (m .pairs .count)) true) few-pairs
+        ∙ ap (λ (c : Checked). thenCalled c fits (ltb i (m .pairs .count)) true) (accepted-stand m e ∙ sym e)
 
     number-same : (known : Bool) → ltb i (m .pairs .count) ≡ known
-        → answerOf (asked fits known) (pairOverlapIn drawn sampled parts sides centers choices q i) ≡ answerOf (asked fits known) (pairOverlap (m .parts) (m .outlines) q (pairAt (m .pairs) i))
-    number-same true h = ap (answerOf (asked fits true)) (pair-overlap-read m e t i (ltb-true i (m .pairs .count) h) q)
-    number-same false h = no-pair fits _ _
+        → answerOf (callChecked m fits known true) (pairOverlapIn drawn sampled parts sides centers choices q i) ≡ answerOf (callChecked m fits known true) (pairOverlap (m .parts) (m .outlines) q (pairAt (m .pairs) i))
+    number-same true h = ap (answerOf (callChecked m fits true true)) (pair-overlap-read m e t i (ltb-true i (m .pairs .count) h) q)
+    number-same false h = no-pair (checkOf m) fits _ _
 
     overlap-asked : pairOverlapAnswerIn drawn sampled parts sides centers choices (m .bodies) (m .pairs .count) q i ≡ pairOverlapAnswer m q i
     unfolding pairOverlapAnswerIn pairOverlapAnswer
     overlap-asked =
         ap (λ (c : Checked). answerOf c (pairOverlapIn drawn sampled parts sides centers choices q i)) ask-goes
         ∙ number-same (ltb i (m .pairs .count)) refl
-        ∙ ap (λ (c : Checked). answerOf c (pairOverlap (m .parts) (m .outlines) q (pairAt (m .pairs) i))) call-goes
 
   -- ---- the readings
   module _ (q : Pose) where
@@ -210,19 +183,11 @@ module _ (m : Mechanism) (e : checkOf m ≡ Accepted) {faces : List (List Float)
         ap₂ (λ (c : Checked) (l : List Row). readIn faces fnames discs dnames sides centers choices drawn sampled parts c (m .pairs .count) q l) (checked-as q w x y z) (all-rows q margin)
         ∙ read-by (rowsChecked m q w x y z) (rowsOf m q margin)
 
-  -- ---- the pose
-  posed-as : (entries : List (List Float)) → bodiesPosed (m .bodies) entries ≡ poseChecked m entries
-  posed-as entries =
-      let fits = not (eqb (length entries) (m .bodies .coords)) in
-      goes-on (bodiesStand (m .bodies)) (refusedIf fits PoseNotMatching) (ap isAccepted (stand m e))
-      ∙ sym (then-nothing fits PoseNotMatching)
-      ∙ sym (goes-on (checkOf m) (andThen (refusedIf fits PoseNotMatching) Accepted) (ap isAccepted e))
-
   read-checked-as : (entries : List (List Float)) (w x y z : ℕ) → readChecked (m .bodies) (m .pairs .count) sides entries w x y z ≡ andThen (poseChecked m entries) (rowsChecked m (poseOf (m .bodies) entries) w x y z)
   unfolding readChecked
   read-checked-as entries w x y z =
       goes-on-if LimitPassed (andThen (bodiesPosed (m .bodies) entries) (preparedChecked (m .bodies) (m .pairs .count) sides (poseOf (m .bodies) entries) w x y z)) few-pairs
-      ∙ ap₂ andThen (posed-as entries) (checked-as (poseOf (m .bodies) entries) w x y z)
+      ∙ ap₂ andThen (posed-bodies m entries e) (checked-as (poseOf (m .bodies) entries) w x y z)
 
   pub prepared-reads : ReadsAs m faces fnames discs dnames sides centers choices drawn sampled
   prepared-reads = record {
@@ -234,6 +199,6 @@ module _ (m : Mechanism) (e : checkOf m ≡ Accepted) {faces : List (List Float)
     pair-overlaps = overlap-asked;
     pair-readings = all-readings;
     reading = whole-reading;
-    posed = posed-as;
+    posed = λ entries. posed-bodies m entries e;
     read-checks = read-checked-as;
   }

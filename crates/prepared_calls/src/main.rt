@@ -1,6 +1,6 @@
 // Prints the readings of sheet texts by the prepared call, each as a number: X,number,place where a text is refused (document 01's 1 to 11 and 13, with 256 rows lent), else `accepted`, how many rows there are, and
 // a number that all of the reading goes into: every row with its pieces, gap, normal and point, all gradients, all slips, of each pair the overlaps and the bearing. Each pair's overlap is also asked for by itself,
-// and stands as -1 where the two differ. The texts come from standard input, each behind its
+// and stands as -1 where the two differ. Before each description the same arrays are prepared for the accepted one before it that has the most segments. The texts come from standard input, each behind its
 // length in six decimal digits and a newline. The files stdin and stdout beside this program were made by `oracle/readings store`: the answers are the Rust's.
 ghost use Prim.Native.Nat.{_≤_};
 use bodies::Bodies;
@@ -20,6 +20,7 @@ use mechanism::bearing::Bearing;
 use mechanism::bearing::HowItBears;
 use mechanism::bearing::MaybeBearing;
 use mechanism::bearing::MaybeSlope;
+use mechanism::check::segs_counted;
 use mechanism::rows::Place;
 use mechanism::rows::Value;
 use overlap::prepared::pair_overlap;
@@ -325,8 +326,8 @@ fn first<'a>(parts: &'a [PartRow], n: usize) -> &'a [PartRow] {
     parts
 }
 
-// Prepares the description, which is accepted, and reads it.
-fn print_prepared(m: Mechanism, margin: f64, q: &[Lent]) {
+// Prepares the description, which is accepted, in arrays that were prepared for another one, and reads it.
+fn print_prepared(before: Mechanism, m: Mechanism, margin: f64, q: &[Lent]) {
     let mut drawn = [[0.0; 2]; 6144];
     let mut sampled = [[0.0; 2]; 13056];
     let mut parts = [[0usize; 5]; 32];
@@ -337,19 +338,25 @@ fn print_prepared(m: Mechanism, margin: f64, q: &[Lent]) {
     let mut sides = [[0usize; 7]; 32];
     let mut centers = [[0.0; 2]; 32];
     let mut choices = [[0u8; 32]; 64];
-    tables::prepare(
-        m,
-        &mut drawn,
-        &mut sampled,
-        &mut parts,
-        &mut faces,
-        &mut fnames,
-        &mut discs,
-        &mut dnames,
-        &mut sides,
-        &mut centers,
-        &mut choices,
-    );
+    let mut d = before;
+    let mut turn: usize = 0;
+    while turn < 2 {
+        tables::prepare(
+            d,
+            &mut drawn,
+            &mut sampled,
+            &mut parts,
+            &mut faces,
+            &mut fnames,
+            &mut discs,
+            &mut dnames,
+            &mut sides,
+            &mut centers,
+            &mut choices,
+        );
+        d = m;
+        turn += 1;
+    }
     let bodies = m.bodies;
     let ps = m.parts;
     let pairs = m.pairs;
@@ -379,15 +386,38 @@ fn first_entries<'a>(q: &'a [Lent], n: usize) -> &'a [Lent] {
     q
 }
 
-fn answer(text: &[u8]) {
+// Of two descriptions the second, where it has no fewer segments.
+fn larger(before: Mechanism, m: Mechanism) -> Mechanism {
+    let p = before.parts;
+    let q = m.parts;
+    if segs_counted(q) < segs_counted(p) {
+        before
+    } else {
+        m
+    }
+}
+
+// Answers a text, and gives the description for which the arrays are prepared before the next.
+fn answer(before: Mechanism, text: &[u8]) -> Mechanism {
     let s = sheet::read(text);
     let m = s.mechanism;
     let e = s.entries;
     let n = e.count;
     let c = s.checked;
     match c {
-        Checked::Accepted => print_prepared(m, s.margin, first_entries(&sheet::posed::lent(e), n)),
-        Checked::Refused(p) => print_problem(p),
+        Checked::Accepted => {
+            print_prepared(
+                before,
+                m,
+                s.margin,
+                first_entries(&sheet::posed::lent(e), n),
+            );
+            larger(before, m)
+        }
+        Checked::Refused(p) => {
+            print_problem(p);
+            before
+        }
     }
 }
 
@@ -399,31 +429,47 @@ fn fill(buf: &mut [u8], n: usize) {
 }
 
 // Answers the text of the first n bytes.
-fn answer_first(buf: &[u8], n: usize) {
+fn answer_first(before: Mechanism, buf: &[u8], n: usize) -> Mechanism {
     if n <= buf.len() {
-        answer(&buf[..n]);
+        return answer(before, &buf[..n]);
     }
+    before
 }
 
-// Reads and answers a text; false at the end of the input.
-fn next() -> bool {
+// Whether there was one more text, and the description for the next.
+struct Turn {
+    more: bool,
+    before: Mechanism,
+}
+
+// Reads and answers a text.
+fn next(before: Mechanism) -> Turn {
     let mut head = [0u8; 7];
     if io::read_full(0, &mut head) < 7 {
-        return false;
+        return Turn {
+            more: false,
+            before,
+        };
     }
     let n = length_of(head);
     let mut buf = [0u8; 65537];
     fill(&mut buf, n);
-    answer_first(&buf, n);
-    true
+    Turn {
+        more: true,
+        before: answer_first(before, &buf, n),
+    }
 }
 
 fn main() {
+    let s = sheet::read(b"");
+    let mut before = s.mechanism;
     let mut turns = 1000000u64;
     while turns > 0 {
-        if !next() {
+        let t = next(before);
+        if !t.more {
             return;
         }
+        before = t.before;
         turns -= 1;
     }
 }

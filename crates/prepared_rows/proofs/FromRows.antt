@@ -192,12 +192,6 @@ checked-is b n sides q w x y z {many} {stand} {fits} {off} {room} e f g h k =
     ∙ ap (λ (t : Bool). stages many stand t (anyIn (fallsOff (b .count) sides) n 0) (roomIn b sides n w x y z)) g
     ∙ ap (λ (t : Bool). stages many stand fits t (roomIn b sides n w x y z)) h ∙ ap (stages many stand fits off) k
 
-pub stand-few : (b : Bodies) → bodiesStand b ≡ Accepted → (b .count ≤ 15) × (b .coords ≤ 16)
-unfolding bodiesStand
-stand-few b e =
-    let n = neither (ltb 15 (b .count)) (ltb 16 (b .coords)) (no-refusal (ltb 15 (b .count) || ltb 16 (b .coords)) LimitPassed (passed (refusedIf (ltb 15 (b .count) || ltb 16 (b .coords)) LimitPassed) (bodiesChecked b) e .0)) in
-    (ltb-false 15 (b .count) (n .0), ltb-false 16 (b .coords) (n .1))
-
 pub columns-few : (bound coords : ℕ) → bound ≤ 23296 → coords ≤ 16 → bound * coords ≤ 372736
 columns-few bound coords h k = let p : bound * coords ≤ 23296 * 16 = mul-le-mul h k in omega (arith, p)
 

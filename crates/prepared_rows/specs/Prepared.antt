@@ -51,7 +51,7 @@ roomIn b sides n places values grad slip =
     let columns = bound * b .coords in
     (leb bound places && leb bound values) && (leb columns grad && leb columns slip)
 
--- 3, 4, 11, 12 and 13 of a call on a prepared description
+-- 3, 4 and 5 of the bodies, then 11, 12 and 13 of a call on a prepared description
 unfoldable pub preparedChecked : Bodies → ℕ → List (List ℕ) → Pose → (places values grad slip : ℕ) → Checked
 preparedChecked b n sides q places values grad slip =
     andThen (refusedIf (ltb 16 n) LimitPassed)

@@ -3,10 +3,13 @@ ghost use mathlib.Core.Path.{_≡_};
 ghost use mathlib.Core.List.{map};
 ghost use Rattle.sheet.specs.Posed.{entryRow, poseOf};
 use super::Entries;
+use bodies::Checked;
 use bodies::pose::Entry;
 use bodies::pose::Lent;
 use bodies::pose::Posed;
+use bodies::pose::no_pose;
 use mechanism::Mechanism;
+use mechanism::check::call_checked;
 
 // Sixteen entries of a pose, lent.
 pub type LentEntries = [Lent; 16];
@@ -29,9 +32,16 @@ pub fn lent(e: Entries) -> LentEntries
 pub fn posed(m: Mechanism, e: Entries) -> Posed
     ensures { λ r. ⌜ r ≡ poseOf m e ⌝ }
 {
-    let q = lent(e);
-    if e.count < 16 {
-        return m.pose(&q[..e.count]);
+    let b = m.bodies;
+    let c = call_checked(m, e.count == b.coords, true, true);
+    match c {
+        Checked::Refused(p) => no_pose(p),
+        Checked::Accepted => {
+            let q = lent(e);
+            if e.count < 16 {
+                return b.pose(&q[..e.count]);
+            }
+            b.pose(&q)
+        }
     }
-    m.pose(&q)
 }

@@ -35,7 +35,7 @@ pub type SideRow = [usize; 7];
 // What each part is to a side: to its material 1 a solid, 2 a cut; or whether it is sampled.
 pub type ChoiceRow = [u8; 32];
 
-// What a part's row says: rows from 65,535 on do not count, nor do more points than those of any silhouette.
+// What a part's row says: a first row above 65,535 is read as 65,535, and no more points count than any silhouette has.
 pub struct PartFacts {
     pub body: usize,
     pub drawn: usize,
@@ -44,7 +44,7 @@ pub struct PartFacts {
     pub samples: usize,
 }
 
-// What a side's row says: rows from 65,535 on do not count, nor do more than twelve faces or twenty-eight discs.
+// What a side's row says: a first row above 65,535 is read as 65,535, and no more than twelve faces and twenty-eight discs count.
 pub struct SideFacts {
     pub body: usize,
     pub face: usize,

@@ -12,7 +12,8 @@ use Rattle.geometry.specs.declared.MaybeDir.{MaybeDir}
 use Rattle.geometry.specs.declared.MaybeDir.the-variants.{SomeDir, NoDir}
 use Rattle.geometry.specs.declared.Seg.the-variants.{Arc}
 use Rattle.geometry.proofs.DirAgain.{dir-again}
-use Rattle.mechanism.specs.Check.{hasNone, noDir, jointLacks, segLacks}
+use Rattle.bodies.specs.Check.{hasNone, dirLacks, jointLacks}
+use Rattle.mechanism.specs.Check.{segLacks}
 use Rattle.bodies.specs.declared.Joint.the-variants.{Prismatic}
 use Rattle.text.specs.Fields.{realAt}
 use Rattle.text.specs.Records.{dirAt}
@@ -21,15 +22,15 @@ use Rattle.text.specs.Records.{dirAt}
 abbrev plain : Float → Float → Dir
 plain x y = record { x = x; y = y }
 
-stored-as : (x y : Float) (m : MaybeDir) → dirOf x y ≡ m → noDir (dirOr m (plain x y)) ≡ hasNone m
+stored-as : (x y : Float) (m : MaybeDir) → dirOf x y ≡ m → dirLacks (dirOr m (plain x y)) ≡ hasNone m
 stored-as x y (SomeDir d) h = ap hasNone (dir-again x y d h .1)
 stored-as x y NoDir h = ap hasNone h
 
-pub stored-lacks : (x y : Float) → noDir (dirOr (dirOf x y) (record { x = x; y = y })) ≡ hasNone (dirOf x y)
+pub stored-lacks : (x y : Float) → dirLacks (dirOr (dirOf x y) (record { x = x; y = y })) ≡ hasNone (dirOf x y)
 stored-lacks x y = stored-as x y (dirOf x y) refl
 
 -- a direction read from the fields of a line
-pub dir-lacks : (fs : List (List ℕ)) (j : ℕ) → noDir (dirAt fs j) ≡ hasNone (dirOf (realAt fs j) (realAt fs (j + 1)))
+pub dir-lacks : (fs : List (List ℕ)) (j : ℕ) → dirLacks (dirAt fs j) ≡ hasNone (dirOf (realAt fs j) (realAt fs (j + 1)))
 dir-lacks fs j = stored-lacks (realAt fs j) (realAt fs (j + 1))
 
 -- the arc that an A line draws, whose two directions are its fields 4 to 7

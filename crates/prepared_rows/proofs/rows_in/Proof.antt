@@ -3,9 +3,10 @@ use mathlib.Core.Path.{_≡_, refl, sym, _∙_}
 use lib.ListN.{length}
 use borrow.Author.Tests.{lt-ltb, le-ltb, eq-eqb, ne-eqb}
 use Rattle.bodies.specs.Check.{bodiesStand}
+use Rattle.bodies.proofs.Checks.{stand-few}
 use Rattle.bodies.specs.declared.Checked.the-variants.{Accepted}
 use Rattle.prepared_rows.specs.Prepared.{allRows, allGrads, allSlips, preparedChecked}
-use Rattle.prepared_rows.proofs.FromRows.{checked-is, stand-few, columns-few, room-tested, has-room-in}
+use Rattle.prepared_rows.proofs.FromRows.{checked-is, columns-few, room-tested, has-room-in}
 use Rattle.shown_rows.proofs.Answer.{none-answered, rows-answered}
 use borrow.Author.Needs.{needs}
 use Rattle.prepared_rows.proofs.rows_in.Statement.{statement}

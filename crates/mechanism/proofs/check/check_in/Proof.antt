@@ -1,10 +1,10 @@
 use mathlib.Core.Path.{_≡_, sym, _∙_}
 use mathlib.Core.Bool.{Bool}
 use Rattle.bodies.proofs.Checks.{is-no, is-yes}
-use Rattle.mechanism.specs.Check.{limitsPassed, limitPassed, directionMissing}
+use Rattle.mechanism.specs.Check.{limitsPassed, limitPassed}
 use Rattle.mechanism.specs.Segments.{described}
 use Rattle.mechanism.specs.declared.Mechanism.{Mechanism}
-use Rattle.mechanism.proofs.Checks.{few, stand-is, at-limits, at-bodies, at-directions, at-parts, at-pairs}
+use Rattle.mechanism.proofs.Checks.{few, drawnLack, at-limits, at-bodies, at-directions, at-parts, at-pairs}
 use borrow.Author.Needs.{needs}
 use Rattle.mechanism.proofs.check.check_in.Statement.{statement}
 use Rattle.mechanism.proofs.check.check_in.Tie as tie
@@ -14,7 +14,7 @@ limits : (m : Mechanism) {t v : Bool} → t ≡ limitsPassed (m .bodies) (m .par
 unfolding limitPassed
 limits m e f = sym e ∙ f
 
-directions : (m : Mechanism) {t v : Bool} → t ≡ directionMissing m → t ≡ v → directionMissing m ≡ v
+directions : (m : Mechanism) {t v : Bool} → t ≡ drawnLack m → t ≡ v → drawnLack m ≡ v
 directions m e f = sym e ∙ f
 
 limit-passed-requires : tie.Need-limit-passed-requires
@@ -33,21 +33,20 @@ returns-2 : tie.Need-returns-2
 returns-2 c =
     let m = described (c .before .before .before .before .before .args .b) (c .before .before .before .before .before .args .p) (c .before .before .before .before .before .args .segs .now) (c .before .before .before .before .before .args .q) in
     let l = limits m (c .before .before .before .before .limit-passed .ensures) (c .before .before .before .if1 .left) in
-    let e = c .before .before .bodies-stand .ensures ∙ stand-is m l in
+    let e = c .before .before .bodies-stand .ensures in
     e ∙ sym (at-bodies m l (is-no e (c .before .is-refused .ensures) (c .if2 .taken)))
 
 direction-missing-requires : tie.Need-direction-missing-requires
 direction-missing-requires c κs =
     let m = described (c .before .before .before .before .before .args .b) (c .before .before .before .before .before .args .p) (c .before .before .before .before .before .args .segs .now) (c .before .before .before .before .before .args .q) in
     let l = limits m (c .before .before .before .before .limit-passed .ensures) (c .before .before .before .if1 .left) in
-    let f = few m l in
-    (f .bodies, f .parts)
+    few m l .parts
 
 returns-3 : tie.Need-returns-3
 returns-3 c =
     let m = described (c .before .before .before .before .before .before .before .args .b) (c .before .before .before .before .before .before .before .args .p) (c .before .before .before .before .before .before .before .args .segs .now) (c .before .before .before .before .before .before .before .args .q) in
     let l = limits m (c .before .before .before .before .before .before .limit-passed .ensures) (c .before .before .before .before .before .if1 .left) in
-    let b = is-yes (c .before .before .before .before .bodies-stand .ensures ∙ stand-is m l) (c .before .before .before .is-refused .ensures) (c .before .before .if2 .left) in
+    let b = is-yes (c .before .before .before .before .bodies-stand .ensures) (c .before .before .before .is-refused .ensures) (c .before .before .if2 .left) in
     sym (at-directions m l b (directions m (c .before .direction-missing .ensures) (c .if3 .taken)))
 
 parts-checked-requires : tie.Need-parts-checked-requires
@@ -63,7 +62,7 @@ returns-4 : tie.Need-returns-4
 returns-4 c =
     let m = described (c .before .before .before .before .before .before .before .before .before .before .args .b) (c .before .before .before .before .before .before .before .before .before .before .args .p) (c .before .before .before .before .before .before .before .before .before .before .args .segs .now) (c .before .before .before .before .before .before .before .before .before .before .args .q) in
     let l = limits m (c .before .before .before .before .before .before .before .before .before .limit-passed .ensures) (c .before .before .before .before .before .before .before .before .if1 .left) in
-    let b = is-yes (c .before .before .before .before .before .before .before .bodies-stand .ensures ∙ stand-is m l) (c .before .before .before .before .before .before .is-refused .ensures) (c .before .before .before .before .before .if2 .left) in
+    let b = is-yes (c .before .before .before .before .before .before .before .bodies-stand .ensures) (c .before .before .before .before .before .before .is-refused .ensures) (c .before .before .before .before .before .if2 .left) in
     let d = directions m (c .before .before .before .before .direction-missing .ensures) (c .before .before .before .if3 .left) in
     let e = c .before .before .parts-checked .ensures in
     e ∙ sym (at-parts m l b d (is-no e (c .before .is-refused2 .ensures) (c .if4 .taken)))
@@ -79,7 +78,7 @@ returns-5 : tie.Need-returns-5
 returns-5 c =
     let m = described (c .before .before .before .before .before .before .before .before .before .before .before .args .b) (c .before .before .before .before .before .before .before .before .before .before .before .args .p) (c .before .before .before .before .before .before .before .before .before .before .before .args .segs .now) (c .before .before .before .before .before .before .before .before .before .before .before .args .q) in
     let l = limits m (c .before .before .before .before .before .before .before .before .before .before .limit-passed .ensures) (c .before .before .before .before .before .before .before .before .before .if1 .left) in
-    let b = is-yes (c .before .before .before .before .before .before .before .before .bodies-stand .ensures ∙ stand-is m l) (c .before .before .before .before .before .before .before .is-refused .ensures) (c .before .before .before .before .before .before .if2 .left) in
+    let b = is-yes (c .before .before .before .before .before .before .before .before .bodies-stand .ensures) (c .before .before .before .before .before .before .before .is-refused .ensures) (c .before .before .before .before .before .before .if2 .left) in
     let d = directions m (c .before .before .before .before .before .direction-missing .ensures) (c .before .before .before .before .if3 .left) in
     c .pairs-checked .ensures ∙ sym (at-pairs m l b d (is-yes (c .before .before .before .parts-checked .ensures) (c .before .before .is-refused2 .ensures) (c .before .if4 .left)))
 

@@ -2,9 +2,6 @@ use borrow.Author.Needs.{needs}
 use Rattle.mechanism.proofs.check.direction_missing.Statement.{statement}
 use Rattle.mechanism.proofs.check.direction_missing.Tie as tie
 
-bodies-lack-requires : tie.Need-bodies-lack-requires
-bodies-lack-requires c κs = search needs
-
 parts-lack-requires : tie.Need-parts-lack-requires
 parts-lack-requires c κs = search needs
 
@@ -15,13 +12,12 @@ outlines-lack-requires : tie.Need-outlines-lack-requires
 outlines-lack-requires c κs = search needs
 
 returns : tie.Need-returns
-returns c = simp (c .outlines-lack .ensures, c .before .segs-in-all .ensures, c .before .before .parts-lack .ensures, c .before .before .before .bodies-lack .ensures)
+returns c = simp (c .outlines-lack .ensures, c .before .segs-in-all .ensures, c .before .before .parts-lack .ensures)
 
 pub direction-missing-spec : {M : Type 1} → statement M
 direction-missing-spec =
     tie.close
     (tie.spec
-    bodies-lack-requires
     parts-lack-requires
     segs-in-all-requires
     outlines-lack-requires

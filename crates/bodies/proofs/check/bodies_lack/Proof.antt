@@ -5,10 +5,10 @@ use native.Mathlib.Nat.{sub-zero}
 use mathlib.Core.Path.{_≡_, sym, _∙_}
 use Rattle.laws.specs.Loops.{anyIn}
 use Rattle.laws.proofs.Loops.{any-yes, any-no, any-done}
 use Rattle.bodies.specs.Description.{bodyAt}
-use Rattle.mechanism.specs.Check.{jointLacks, bodiesLack}
-use Rattle.mechanism.proofs.check.bodies_lack.Statement.{statement}
-use Rattle.mechanism.proofs.check.bodies_lack.Tie as tie
+use Rattle.bodies.specs.Check.{jointLacks, bodiesLack}
+use Rattle.bodies.proofs.check.bodies_lack.Statement.{statement}
+use Rattle.bodies.proofs.check.bodies_lack.Tie as tie
 
 abbrev Inv-loop : tie.InvT-loop
 Inv-loop b n i₀ i = (i ≤ b .count) × (anyIn (λ k. jointLacks (bodyAt b k .joint)) (b .count - i) i ≡ anyIn (λ k. jointLacks (bodyAt b k .joint)) (b .count) 0)

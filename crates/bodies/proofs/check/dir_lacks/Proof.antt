@@ -1,6 +1,6 @@
 use borrow.Author.Needs.{needs}
-use Rattle.mechanism.proofs.check.no_dir.Statement.{statement}
-use Rattle.mechanism.proofs.check.no_dir.Tie as tie
+use Rattle.bodies.proofs.check.dir_lacks.Statement.{statement}
+use Rattle.bodies.proofs.check.dir_lacks.Tie as tie
 
 new-requires : tie.Need-new-requires
 new-requires c κs = search needs
@@ -21,5 +21,5 @@ returns-2 c =
     let t1 = simp (c .before .before .new .ensures) at (c .enum-told2 .given .1) in
     simp (t1, c .before .before .new .ensures)
 
-pub no-dir-spec : {M : Type 1} → statement M
-no-dir-spec = tie.close (tie.spec new-requires enum-told enum-told-2 returns returns-2)
+pub dir-lacks-spec : {M : Type 1} → statement M
+dir-lacks-spec = tie.close (tie.spec new-requires enum-told enum-told-2 returns returns-2)
