@@ -3,19 +3,26 @@ use Prim.Native.Nat.{ℕ, suc, _+_, _<_, _≤_}
 use native.Mathlib.Omega.{arith}
 use native.Mathlib.Numerals.{add-one}
 use mathlib.Core.Path.{_≡_, refl, sym, ap, _∙_}
+use mathlib.Core.Bool.{true}
 use mathlib.Core.List.{List, [], _∷_, _++_, map, map-append}
+use lib.Dec.{eqb}
+use borrow.Author.Tests.{eqb-true}
 use lib.ListN.{length, getD, set, take, length-set}
-use lib.Seq.{take-suc, take-suc-set, take-all}
+use lib.Seq.{take-suc, take-suc-set, take-all, length-take-le}
 use lib.Ieee.{Float}
 use mir.Val.{Val}
 use denote.Laws.{Is}
 use Rattle.laws.proofs.Fill.{map-take}
-use Rattle.bodies.specs.Pose.{posedOf}
+use Rattle.bodies.specs.Pose.{bodiesPosed, noPose, posedOf}
+use Rattle.bodies.specs.declared.Checked.{Checked}
+use Rattle.bodies.specs.declared.Checked.the-variants.{Accepted, Refused}
+use Rattle.bodies.specs.declared.Problem.{Problem}
 use Rattle.bodies.specs.declared.pose.Entry.{Entry}
 use Rattle.bodies.specs.declared.pose.Posed.{Posed}
 use Rattle.bodies.proofs.Known.{array-length}
 use Rattle.bodies.proofs.pose.Entry as E
-use Rattle.mechanism.specs.Pose.{poseChecked}
+use Rattle.mechanism.specs.Check.{checkOf, callChecked}
+use Rattle.mechanism.proofs.Checks.{call-accepted, accepted-few, posed-bodies}
 use Rattle.mechanism.specs.declared.Mechanism.{Mechanism}
 use Rattle.sheet.specs.declared.Entries.{Entries}
 use Rattle.sheet.specs.Posed.{entryRow, lentOf, poseOf}
@@ -54,12 +61,35 @@ pub lents-end : {es : List Entry} {q : List (List Float)} {i : ℕ} → length e
 lents-end {es} {q} {i} n w h = sym (take-all i q (omega (arith, w .long))) ∙ w .same ∙ ap (map entryRow) (take-all i es (omega arith))
 
 -- ---- the pose of a text's entries
-module _ (m : Mechanism) (e : Entries) {l : List (List Float)} (h : l ≡ map entryRow (e .entry)) where
-  lent-as : take (e .count) l ≡ lentOf e
-  lent-as = ap (take (e .count)) h ∙ sym (map-take entryRow (e .entry) (e .count))
+module _ (m : Mechanism) (e : Entries) where
+  abbrev checked : Checked
+  checked = callChecked m (eqb (e .count) (m .bodies .coords)) true true
 
-  pub posed-first : {p : Posed} → p ≡ posedOf (poseChecked m (take (e .count) l)) (m .bodies) (take (e .count) l) → p ≡ poseOf m e
-  posed-first k = k ∙ ap (λ (x : List (List Float)). posedOf (poseChecked m x) (m .bodies) x) lent-as
+  -- the description of a call that is not refused, and what it was asked
+  passes : checked ≡ Accepted → (checkOf m ≡ Accepted) × (eqb (e .count) (m .bodies .coords) ≡ true)
+  passes a = let c = call-accepted m (eqb (e .count) (m .bodies .coords)) true true a in (c .0, c .1)
 
-  pub posed-all : {p : Posed} → length l ≤ e .count → p ≡ posedOf (poseChecked m l) (m .bodies) l → p ≡ poseOf m e
-  posed-all n k = posed-first (k ∙ ap (λ (x : List (List Float)). posedOf (poseChecked m x) (m .bodies) x) (sym (take-all (e .count) l n)))
+  pub posed-none : {p : Problem} {r : Posed} → checked ≡ Refused p → r ≡ noPose p → r ≡ poseOf m e
+  posed-none h k = k ∙ ap (λ (c : Checked). posedOf c (m .bodies) (lentOf e)) (sym h)
+
+  module _ (a : checked ≡ Accepted) {l : List (List Float)} (h : l ≡ map entryRow (e .entry)) (long : length l ≡ 16) where
+    lent-as : take (e .count) l ≡ lentOf e
+    lent-as = ap (take (e .count)) h ∙ sym (map-take entryRow (e .entry) (e .count))
+
+    -- what the bodies by themselves refuse of the entries that are lent is what the description refuses of those that are counted
+    posed-by : (q : List (List Float)) {r : Posed} → q ≡ lentOf e → length q ≡ e .count → r ≡ posedOf (bodiesPosed (m .bodies) q) (m .bodies) q → r ≡ poseOf m e
+    posed-by q s n k =
+        k
+        ∙ ap (λ (c : Checked). posedOf c (m .bodies) q) (posed-bodies m q (passes a .0) ∙ ap (λ (i : ℕ). callChecked m (eqb i (m .bodies .coords)) true true) n)
+        ∙ ap (posedOf checked (m .bodies)) s
+
+    pub posed-first : {r : Posed} → e .count < 16 → r ≡ posedOf (bodiesPosed (m .bodies) (take (e .count) l)) (m .bodies) (take (e .count) l) → r ≡ poseOf m e
+    posed-first n k = posed-by (take (e .count) l) lent-as (length-take-le (e .count) l (omega (arith, long))) k
+
+    -- no accepted description has more than sixteen coordinates
+    pub posed-all : {r : Posed} → 16 ≤ e .count → r ≡ posedOf (bodiesPosed (m .bodies) l) (m .bodies) l → r ≡ poseOf m e
+    posed-all n k =
+        let c = passes a in
+        let few = accepted-few m (c .0) .coords in
+        let same : e .count ≡ m .bodies .coords = eqb-true (e .count) (m .bodies .coords) (c .1) in
+        posed-by l (sym (take-all (e .count) l (omega (arith, long))) ∙ lent-as) (omega (arith, long, few, same)) k
