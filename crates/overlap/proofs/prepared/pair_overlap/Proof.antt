@@ -1,48 +1,55 @@
-use mathlib.Core.Path.{refl, sym, ap, _∙_}
-use borrow.Author.Tests.{lt-ltb, le-ltb}
+use Prim.Native.Nat.{ℕ}
+use mathlib.Core.Path.{_≡_, sym, ap, _∙_}
+use mathlib.Core.List.{List}
+use lib.Ieee.{Float}
+use Rattle.bodies.specs.declared.Bodies.{Bodies}
+use Rattle.bodies.specs.declared.Checked.{Checked}
+use Rattle.bodies.specs.declared.pose.Pose.{Pose}
+use Rattle.mechanism.specs.Check.{answerOf}
 use Rattle.mechanism.specs.declared.FloatAnswer.the-variants.{IsFloat}
-use Rattle.overlap.proofs.Asked.{answer-is}
+use Rattle.overlap.specs.Prepared.{pairOverlapIn, askChecked, pairOverlapAnswerIn}
 use borrow.Author.Needs.{needs}
 use Rattle.overlap.proofs.prepared.pair_overlap.Statement.{statement}
 use Rattle.overlap.proofs.prepared.pair_overlap.Tie as tie
-use Rattle.overlap.proofs.prepared.pair_overlap.Reads as reads
-use Rattle.overlap.proofs.prepared.pair_overlap.Lts as lts
-use Rattle.bodies.proofs.pose.Pose.fits.Reads as fits-reads
-use Rattle.overlap.proofs.prepared.pair_overlap_in.Reads as pair-overlap-in-reads
 
--- src/prepared.rt:303:9
-returns : tie.Need-returns
-returns c =
-    let a = c .before .args in
-    sym (answer-is (a .drawn .now) (a .sampled .now) (a .parts .now) (a .sides .now) (a .centers .now) (a .choices .now) (a .bodies) (a .pairs) (a .q) (a .pair) (lt-ltb 16 (a .pairs) (c .if1 .taken)) refl refl)
+-- the answer by what the check was
+answered : (drawn sampled : List (List Float)) (parts sides : List (List ℕ)) (centers : List (List Float)) (choices : List (List ℕ)) (b : Bodies) (n : ℕ) (q : Pose) (i : ℕ) {x c : Checked}
+    → x ≡ askChecked b n q i → x ≡ c → pairOverlapAnswerIn drawn sampled parts sides centers choices b n q i ≡ answerOf c (pairOverlapIn drawn sampled parts sides centers choices q i)
+unfolding pairOverlapAnswerIn
+answered drawn sampled parts sides centers choices b n q i e f = ap (λ (k : Checked). answerOf k (pairOverlapIn drawn sampled parts sides centers choices q i)) (sym e ∙ f)
 
--- src/prepared.rt:305:8
-fits-requires : tie.Need-fits-requires
-fits-requires c κs = search needs
+ask-checked-requires : tie.Need-ask-checked-requires
+ask-checked-requires c κs = search needs
 
--- src/prepared.rt:307:41
+enum-known-c : tie.Need-enum-known-c
+enum-known-c c = search needs
+
+enum-told : tie.Need-enum-told
+enum-told c = search needs
+
 pair-overlap-in-requires : tie.Need-pair-overlap-in-requires
 pair-overlap-in-requires c κs = search needs
 
--- src/prepared.rt:307:13
+returns : tie.Need-returns
+returns c =
+    let k = c .before .before .before in
+    let a = k .before .args in
+    sym (answered (a .drawn .now) (a .sampled .now) (a .parts .now) (a .sides .now) (a .centers .now) (a .choices .now) (a .bodies) (a .pairs) (a .q) (a .pair) (k .ask-checked .ensures) (c .before .c .given .1))
+
 returns-2 : tie.Need-returns-2
 returns-2 c =
-    let a = c .before .before .before .before .before .args in
-    ap IsFloat (c .pair-overlap-in .ensures) ∙ sym (answer-is (a .drawn .now) (a .sampled .now) (a .parts .now) (a .sides .now) (a .centers .now) (a .choices .now) (a .bodies) (a .pairs) (a .q) (a .pair) (le-ltb 16 (a .pairs) (c .before .before .before .before .if1 .left)) (sym (c .before .before .before .fits2 .ensures) ∙ c .before .before .if2 .taken) (lt-ltb (a .pair) (a .pairs) (c .before .if3 .taken)))
-
--- src/prepared.rt:318:9
-returns-3 : tie.Need-returns-3
-returns-3 c =
-    let a = c .before .before .before .before .args in
-    sym (answer-is (a .drawn .now) (a .sampled .now) (a .parts .now) (a .sides .now) (a .centers .now) (a .choices .now) (a .bodies) (a .pairs) (a .q) (a .pair) (le-ltb 16 (a .pairs) (c .before .before .before .if1 .left)) (sym (c .before .before .fits2 .ensures) ∙ c .before .if2 .taken) (le-ltb (a .pair) (a .pairs) (c .if3 .left)))
-
--- src/prepared.rt:288:1
-returns-4 : tie.Need-returns-4
-returns-4 c =
-    let a = c .before .before .before .args in
-    sym (answer-is (a .drawn .now) (a .sampled .now) (a .parts .now) (a .sides .now) (a .centers .now) (a .choices .now) (a .bodies) (a .pairs) (a .q) (a .pair) (le-ltb 16 (a .pairs) (c .before .before .if1 .left)) (sym (c .before .fits2 .ensures) ∙ c .if2 .left) refl)
+    let k = c .before .before .before in
+    let a = k .before .args in
+    ap IsFloat (c .pair-overlap-in .ensures)
+    ∙ sym (answered (a .drawn .now) (a .sampled .now) (a .parts .now) (a .sides .now) (a .centers .now) (a .choices .now) (a .bodies) (a .pairs) (a .q) (a .pair) (k .ask-checked .ensures) (c .before .enum-told .given .1))
 
 pub pair-overlap-spec : {M : Type 1} → statement M
 pair-overlap-spec =
     tie.close
-    (tie.spec returns fits-requires pair-overlap-in-requires returns-2 returns-3 returns-4)
+    (tie.spec
+    ask-checked-requires
+    enum-known-c
+    enum-told
+    pair-overlap-in-requires
+    returns
+    returns-2)
