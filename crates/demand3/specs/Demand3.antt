@@ -33,6 +33,7 @@ use Rattle.shown_rows.specs.Rows.{candidateAt, gapAt, decides, alike, shownOf, 
 use Rattle.governing.specs.Governing.{governingOf, Governing}
 use Rattle.governing.specs.declared.MaybeRow.the-variants.{SomeRow}
 use Rattle.bearings.specs.Bearing.{bearingFrom, rowAt}
+use Rattle.reading.specs.Reading.{noPairReading, readingOf}
 
 -- a list of rows without those that do not pass
 unfoldable pub only : (Row → Bool) → List Row → List Row
@@ -126,3 +127,8 @@ pub record Demand3 (m : Mechanism) (q : Pose) : Type 0 where
   pub governing : (pair : ℕ → ℕ) (gap : ℕ → Float) (n p : ℕ) → Governing pair gap n p (governingOf pair gap n p)
   -- a bearing of whatever records are lent: only for a pair of the description, and only with a governing row
   pub bearing : (row : ℕ → Row) (n p : ℕ) (b : Bearing) → bearingFrom m q row n p .bearing ≡ SomeBearing b → (p < m .pairs .count) × Repeats row n p b
+  -- the bearing that a whole reading has of pair p, whatever was lent: only for a pair of the description, and it repeats the governing row of the reading's own rows. A listing's line
+  -- B,p is written from this bearing: `readOf` of reading_lines/specs/Readings.antt is what the reading holds of the pair
+  pub reading-bearing : (g : Float) (places values grad slip p : ℕ) (b : Bearing) (none : Row)
+      → getD (readingOf m q g places values grad slip .pair) p noPairReading .bearing ≡ SomeBearing b
+      → (p < m .pairs .count) × Repeats (λ k. getD (rowsOf m q g) k none) (length (rowsOf m q g)) p b
