@@ -8,7 +8,7 @@
 #include <stddef.h>
 #include <stdint.h>
 
-/* How many bytes the longest listing has. */
+/* No listing has more bytes: the size of the array that is lent for one. */
 #define SEWQIRUN_LONGEST 192352
 
 #ifdef __cplusplus
@@ -19,9 +19,9 @@ extern "C" {
 size_t sewqirun_longest(void);
 
 /* Writes the listing of the `length` bytes at `text` from the front of `out`, which has SEWQIRUN_LONGEST bytes, and
- * returns how long it is; the bytes behind it stay as they were. A refused text gives one line X,number,place. Both
- * arrays are the caller's; `text` is only read and must not overlap `out`; it may be any address where `length` is 0,
- * but not a null pointer. No byte 0 is written behind the listing. */
+ * returns how long it is, at most SEWQIRUN_LONGEST; the bytes behind it stay as they were. A refused text gives one
+ * line X,number,place. Both arrays are the caller's; `text` is only read and must not overlap `out`; it may be any
+ * address where `length` is 0, but not a null pointer. No byte 0 is written behind the listing. */
 size_t sewqirun_listing(const uint8_t *text, size_t length, uint8_t *out);
 
 #ifdef __cplusplus

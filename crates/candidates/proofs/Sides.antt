@@ -23,20 +23,17 @@ use Rattle.mechanism.specs.declared.features.Piece.the-variants.{Segment}
 use Rattle.mechanism.specs.declared.pair.ContactPair.{ContactPair}
 use Rattle.mechanism.specs.declared.pair.PairGeometry.{PairGeometry}
 use Rattle.mechanism.specs.declared.pair.PairGeometry.the-variants.{Features, CenterBearing}
-use Rattle.mechanism.specs.declared.pair.Surface.{Surface}
 use Rattle.bodies.specs.declared.pose.Pose.{Pose}
 use Rattle.bodies.proofs.Known.{array-length}
 use Rattle.drawing.specs.Drawing.{sideMaterial}
-use Rattle.sides.specs.Bounds.{DrawnSide}
-use Rattle.sides.specs.Contacts.{centerOfB, pairFeatures, pairFeaturesAt}
-use Rattle.sides.specs.Features.{traversalsOf, sideOf}
+use Rattle.sides.specs.Contacts.{pairFeatures, pairFeaturesAt}
+use Rattle.sides.specs.Sizes.{FewOnSide}
 use Rattle.sides.specs.declared.PlacedDisc.{PlacedDisc}
 use Rattle.sides.specs.declared.PlacedFace.{PlacedFace}
 use Rattle.sides.specs.declared.SideFeatures.{SideFeatures}
 use Rattle.sides.specs.declared.contacts.PairFeatures.{PairFeatures}
 use Rattle.sides.proofs.Accepted.{are-drawn}
-use Rattle.sides.proofs.Few.{FewOnSide, side-faces, side-features, rows-few}
-use Rattle.sides.proofs.Sizes.{drawn-runs}
+use Rattle.sides.proofs.Few.{pair-few, rows-few}
 use Rattle.sides.proofs.PlacedDisc as D
 use Rattle.sides.proofs.PlacedFace as F
 use Rattle.sides.proofs.SideFeatures as S
@@ -91,18 +88,11 @@ module _ {A : Type 0} (l : List A) (n i : ℕ) (long : n ≤ length l) where
   left-none p h = ap (any p) (none-left h)
 
 -- ---- the features of a pair that is drawn
-side-few : (ps : Parts) (o : Outlines) (u : Surface) (wanted : Bool) → DrawnSide ps u → FewOnSide (sideOf ps o u wanted)
-unfolding sideOf
-side-few ps o u wanted d =
-    let r = drawn-runs ps o u d in
-    let n = side-features (traversalsOf ps o u) r in
-    record { faces = side-faces (traversalsOf ps o u) r; discs = omega arith; features = n }
-
-pair-few : (ps : Parts) (o : Outlines) (p : ContactPair) → pairDrawn ps p ≡ true → FewParts ps × FewOnSide (pairFeatures ps o p .a) × FewOnSide (pairFeatures ps o p .b)
-unfolding pairFeatures
-pair-few ps o p e =
+drawn-few : (ps : Parts) (o : Outlines) (p : ContactPair) → pairDrawn ps p ≡ true → FewParts ps × FewOnSide (pairFeatures ps o p .a) × FewOnSide (pairFeatures ps o p .b)
+drawn-few ps o p e =
     let d = are-drawn ps p e in
-    (d .0, side-few ps o (p .a) false (d .1), side-few ps o (p .b) (centerOfB (p .geometry)) (d .2))
+    let f = pair-few ps o p (d .1) (d .2) in
+    (d .0, f .a, f .b)
 
 -- the features that the code reads are the pair's
 features-are : (ps : Parts) (o : Outlines) (p : ContactPair) {f : PairFeatures} → pairDrawn ps p ≡ true → f ≡ pairFeaturesAt ps o p → f ≡ pairFeatures ps o p
@@ -131,7 +121,7 @@ few-placed {a} {b} {f} {g} x y p q r s =
 
 -- what the code reads of a pair that is drawn
 pub read-few : (ps : Parts) (o : Outlines) (p : ContactPair) {f : PairFeatures} → pairDrawn ps p ≡ true → f ≡ pairFeaturesAt ps o p → FewParts ps × FewOnSide (f .a) × FewOnSide (f .b)
-read-few ps o p d e = subst (λ (f : PairFeatures). FewParts ps × FewOnSide (f .a) × FewOnSide (f .b)) (sym (features-are ps o p d e)) (pair-few ps o p d)
+read-few ps o p d e = subst (λ (f : PairFeatures). FewParts ps × FewOnSide (f .a) × FewOnSide (f .b)) (sym (features-are ps o p d e)) (drawn-few ps o p d)
 
 module _ (ps : Parts) (o : Outlines) (q : Pose) (p : ContactPair) (f : PairFeatures) (d : pairDrawn ps p ≡ true) (e : f ≡ pairFeaturesAt ps o p) (a : SideFeatures) (fa : facesIn a ≡ facesAt (f .a) q) where
   pub features-read : (b : SideFeatures) → p .geometry ≡ Features → discsIn a ≡ discsAt (f .a) q → facesIn b ≡ facesAt (f .b) q → discsIn b ≡ discsAt (f .b) q

@@ -4,7 +4,7 @@ use lib.Ieee.{add, sub, mul, div, lt, le, eq, neg, isNan, ofBits, round}
 use Rattle.laws.specs.Loops.{anyIn, filterIn, foldIn}
 use Rattle.ieee.specs.Root.{rootOf}
 use Rattle.geometry.specs.Geometry.{dirOf}
-use Rattle.geometry.specs.Signed.{inSector, alongOf, discOnFace}
+use Rattle.geometry.specs.Signed.{inSector, alongOf, discOnFace, centerOnFace}
 use Rattle.geometry.proofs.Sectors.{equal-holds-nothing}
 use Rattle.ieee.specs.Consts.{zeroF, oneF}
 use Rattle.showing.specs.Showing.{shown}
@@ -12,7 +12,7 @@ use Rattle.governing.specs.Governing.{governingOf}
 use Rattle.demand3.specs.Marked.{toward, Marked}
 
 pub marked : Marked
-unfolding dirOf rootOf inSector alongOf discOnFace shown governingOf anyIn filterIn foldIn ofBits round add sub mul div lt le eq neg isNan
+unfolding dirOf rootOf inSector alongOf discOnFace centerOnFace shown governingOf anyIn filterIn foldIn ofBits round add sub mul div lt le eq neg isNan
 marked = record {
   three-four = refl;
   no-length = refl;
@@ -22,6 +22,9 @@ marked = record {
   half-turn-in = refl;
   half-turn-out = refl;
   no-sweep = λ u. equal-holds-nothing u (toward oneF zeroF);
+  centre-above = refl;
+  centre-at-the-end = refl;
+  centre-past-the-end = refl;
   above = refl;
   at-the-end = refl;
   past-the-end = refl;

@@ -2,21 +2,23 @@
 use Prim.Native.Nat.{ℕ, _<_}
 use native.Mathlib.Omega.{arith}
 use mathlib.Core.Path.{_≡_, refl}
-use mathlib.Core.Bool.{Bool}
+use mathlib.Core.Bool.{Bool, not}
 use mathlib.Core.List.{List, map, List·Memᴰ}
 use mathlib.Core.Logic.{_⊎_, inl, inr, ⊎-elim}
-use lib.Dec.{T}
+use lib.Dec.{T, not-T}
 use lib.ListN.{length}
-use lib.Ieee.{Float}
+use lib.Ieee.{Float, lt, isNan}
+use lib.Ieee.Fits.{and-i}
+use Rattle.laws.specs.Floats.{Numeric}
 use Rattle.mechanism.specs.Description.{pairAt}
 use Rattle.mechanism.specs.declared.Mechanism.{Mechanism}
 use Rattle.bodies.specs.declared.pose.Pose.{Pose}
-use Rattle.showing.specs.Showing.{shows}
+use Rattle.showing.specs.Showing.{within, shows}
 use Rattle.showing.proofs.Demand3.{Demand3, Instead, demand-3}
 use Rattle.proximities.specs.declared.Candidate.{Candidate}
 use Rattle.shown_rows.specs.Rows.{candidateAt, gapAt, decides, alike, shownOf, rowOf, pairRows, rowsOfPair}
 use Rattle.shown_rows.proofs.OfPair.{rows-few}
-use Rattle.demand3.specs.Demand3.{candidatesOf, InPlace, OfPair}
+use Rattle.demand3.specs.Demand3.{NotAbove, candidatesOf, InPlace, OfPair}
 use Rattle.demand3.proofs.Pieces.{pieces-agree}
 
 -- whether two of a list's candidates have a deciding piece, and the same
@@ -32,6 +34,10 @@ claim cs = demand-3 (gapAt cs) (decidesAt cs) (alikeAt cs) (pieces-agree cs) (le
 
 abbrev Shows : List Candidate → Float → ℕ → Type 0
 Shows cs g k = T (shows (gapAt cs) (decidesAt cs) (alikeAt cs) (length cs) g k)
+
+-- numeric and not above the margin
+is-within : (g x : Float) → Numeric x → NotAbove x g → T (within g x)
+is-within g x n w = and-i (not (isNan x)) (not (lt g x)) n (not-T (lt g x) w)
 
 -- shown is one of the list
 shows-is : (cs : List Candidate) (g : Float) (k : ℕ) → List·Memᴰ k (shownOf cs g) → (k < length cs) × Shows cs g k
@@ -76,6 +82,7 @@ module _ (m : Mechanism) (q : Pose) (i : ℕ) where
         let b = shows-is cs g l hl in
         claim cs .one-deep g k l (a .0) (b .0) (a .1) (b .1) s dk dl;
     largest-deep = λ g k l hk dk bl s nl lk. claim cs .largest-deep g k l (shows-is cs g k hk .1) dk bl s nl lk;
-    none-lost = λ g k nb b w. ⊎-elim (λ h. inl (is-shown cs g k b h)) (λ x. inr (in-place g k x)) (claim cs .shown-or-outdone g k nb b w);
-    undecided = λ g k b u w. is-shown cs g k b (claim cs .undecided-shown g k u w);
+    none-lost = λ g k nb b n w.
+        ⊎-elim (λ h. inl (is-shown cs g k b h)) (λ x. inr (in-place g k x)) (claim cs .shown-or-outdone g k nb b (is-within g (gapAt cs k) n w));
+    undecided = λ g k b u n w. is-shown cs g k b (claim cs .undecided-shown g k u (is-within g (gapAt cs k) n w));
   }

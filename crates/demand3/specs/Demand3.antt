@@ -9,6 +9,7 @@ use lib.Dec.{T, eqb}
 use lib.ListN.{length, getD}
 use lib.Seq.{sets}
 use lib.Ieee.{Float, lt, eq}
+use Rattle.laws.specs.Floats.{Numeric}
 use Rattle.laws.specs.Lists.{flat}
 use Rattle.laws.specs.Loops.{Rising}
 use Rattle.ieee.specs.Consts.{zeroF}
@@ -25,7 +26,7 @@ use Rattle.material.specs.Material.{Material}
 use Rattle.sides.specs.Contacts.{pairBound, mechanismBound}
 use Rattle.sides.specs.declared.PlacedDisc.{PlacedDisc}
 use Rattle.sides.specs.declared.PlacedFace.{PlacedFace}
-use Rattle.showing.specs.Showing.{deepF, within}
+use Rattle.showing.specs.Showing.{deepF}
 use Rattle.proximities.specs.Proximities.{readAB, readBA, readDiscs, readCenter}
 use Rattle.proximities.specs.declared.Candidate.{Candidate}
 use Rattle.candidates.specs.Candidates.{pairCandidates}
@@ -33,6 +34,7 @@ use Rattle.shown_rows.specs.Rows.{candidateAt, gapAt, decides, alike, shownOf, 
 use Rattle.governing.specs.Governing.{governingOf, Governing}
 use Rattle.governing.specs.declared.MaybeRow.the-variants.{SomeRow}
 use Rattle.bearings.specs.Bearing.{bearingFrom, rowAt}
+use Rattle.reading.specs.Reading.{noPairReading, readingOf}
 
 -- a list of rows without those that do not pass
 unfoldable pub only : (Row → Bool) → List Row → List Row
@@ -42,6 +44,10 @@ only p (r ∷ rs) = cond (p r) (r ∷ only p rs) (only p rs)
 -- one number is smaller than another, or equal to it; no NaN is
 abbrev pub AtMost : Float → Float → Type 0
 AtMost x y = T (lt x y) ⊎ T (eq x y)
+
+-- a gap is not above a margin; no gap is above a NaN margin
+abbrev pub NotAbove : Float → Float → Type 0
+NotAbove x g = T (lt g x) → ⊥
 
 -- ---- one pair, number i, of a description at a pose
 module _ (m : Mechanism) (q : Pose) (i : ℕ) where
@@ -80,9 +86,9 @@ module _ (m : Mechanism) (q : Pose) (i : ℕ) where
     pub one-deep : (g : Float) (k l : ℕ) → Shown g k → Shown g l → OnePiece k l → T (lt (gapOf k) deepF) → T (lt (gapOf l) deepF) → k ≡ l
     pub largest-deep : (g : Float) (k l : ℕ) → Shown g k → T (lt (gapOf k) deepF) → l < length candidatesOf → OnePiece l k → T (lt (gapOf l) zeroF) → T (lt (gapOf k) (gapOf l)) → ⊥
     -- at a margin that is not below zero each candidate with a numeric gap not above it is shown, or a shown row stands in its place
-    pub none-lost : (g : Float) (k : ℕ) → (T (lt g zeroF) → ⊥) → k < length candidatesOf → T (within g (gapOf k)) → Shown g k ⊎ InPlace g k
-    -- one without a deciding piece is shown
-    pub undecided : (g : Float) (k : ℕ) → k < length candidatesOf → T (not (decides (candidateAt candidatesOf k))) → T (within g (gapOf k)) → Shown g k
+    pub none-lost : (g : Float) (k : ℕ) → (T (lt g zeroF) → ⊥) → k < length candidatesOf → Numeric (gapOf k) → NotAbove (gapOf k) g → Shown g k ⊎ InPlace g k
+    -- at any margin one without a deciding piece, its gap numeric and not above it, is shown
+    pub undecided : (g : Float) (k : ℕ) → k < length candidatesOf → T (not (decides (candidateAt candidatesOf k))) → Numeric (gapOf k) → NotAbove (gapOf k) g → Shown g k
 
 -- each choice of a disc and a face, of two discs, or of a centre and a face gives at most one candidate
 pub record AtMostOne : Type 0 where
@@ -126,3 +132,8 @@ pub record Demand3 (m : Mechanism) (q : Pose) : Type 0 where
   pub governing : (pair : ℕ → ℕ) (gap : ℕ → Float) (n p : ℕ) → Governing pair gap n p (governingOf pair gap n p)
   -- a bearing of whatever records are lent: only for a pair of the description, and only with a governing row
   pub bearing : (row : ℕ → Row) (n p : ℕ) (b : Bearing) → bearingFrom m q row n p .bearing ≡ SomeBearing b → (p < m .pairs .count) × Repeats row n p b
+  -- the bearing that a whole reading has of pair p, whatever was lent: only for a pair of the description, and it repeats the governing row of the reading's own rows. A listing's line
+  -- B,p is written from this bearing: `readOf` of reading_lines/specs/Readings.antt is what the reading holds of the pair
+  pub reading-bearing : (g : Float) (places values grad slip p : ℕ) (b : Bearing) (none : Row)
+      → getD (readingOf m q g places values grad slip .pair) p noPairReading .bearing ≡ SomeBearing b
+      → (p < m .pairs .count) × Repeats (λ k. getD (rowsOf m q g) k none) (length (rowsOf m q g)) p b

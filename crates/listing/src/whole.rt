@@ -1,4 +1,5 @@
 // The listing of a sheet text: its readings, or the first refusal that applies.
+ghost use Prim.Native.Nat.{_≤_};
 ghost use mathlib.Core.Path.{_≡_};
 ghost use lib.ListN.{length};
 ghost use lib.Seq.{sets};
@@ -29,9 +30,10 @@ fn posed_lines(out: &mut Listed, m: Mechanism, e: Entries, margin: f64) -> usize
     }
 }
 
-// Writes the listing of a sheet text from the front, and answers how long it is; everything behind it stays.
+// Writes the listing of a sheet text from the front, and answers how long it is; everything behind it stays. No listing is longer than the array.
 pub fn listing(text: &[u8], out: &mut Listed) -> usize
     ensures { λ r. ⌜ (r ≡ length (listingOf (now (text .entry)))) × (now (out .exit) ≡ sets (now (out .entry)) 0 (listingOf (now (text .entry)))) ⌝ }
+    ensures fits { λ r. ⌜ r ≤ length (now (out .exit)) ⌝ }
 {
     let s = sheet::read(text);
     let c = s.checked;

@@ -8,7 +8,7 @@ use mathlib.Core.List.{List, [], _∷_, map}
 use lib.Dec.{eqb}
 use lib.ListN.{length, getD, length-map}
 use lib.Seq.{sets}
-use lib.Ieee.{Float, nan, lt}
+use lib.Ieee.{Float, lt}
 use Rattle.laws.specs.Loops.{foldIn}
 use Rattle.mechanism.specs.Rows.{placeRow, valueRow, rowIn, pairIn, gapIn}
 use Rattle.mechanism.specs.declared.bearing.MaybeBearing.{MaybeBearing}
@@ -79,10 +79,21 @@ module _ (pair pair′ : ℕ → ℕ) (gap gap′ : ℕ → Float) (n : ℕ)
   unfolding governingOf
   governing-same = fold-same n 0 NoRow (omega arith) tt
 
-module _ (f : PairFeatures) (q : Pose) (row row′ : ℕ → Row) (n : ℕ) (er : (j : ℕ) → j < n → row j ≡ row′ j) where
+-- and so does the bearing by it
+module _ (f : PairFeatures) (q : Pose) (row row′ : ℕ → Row) (n : ℕ) (er : (j : ℕ) → j < n → row j ≡ row′ j) (p : ℕ) where
   bearing-same : (x : MaybeRow) → Below n x → governedBearing f q row x ≡ governedBearing f q row′ x
   bearing-same NoRow b = refl
   bearing-same (SomeRow a) b = ap (bearingOf f q) (er a b)
+
+  governed-same : governedBearing f q row (governingOf (λ k. row k .pair) (λ k. row k .gap) n p)
+      ≡ governedBearing f q row′ (governingOf (λ k. row′ k .pair) (λ k. row′ k .gap) n p)
+  governed-same =
+      let pair : ℕ → ℕ = λ k. row k .pair in
+      let gap : ℕ → Float = λ k. row k .gap in
+      bearing-same (governingOf pair gap n p) (inside pair gap n p (governingOf pair gap n p) (governing-first pair gap n p))
+      ∙ ap (governedBearing f q row′)
+      (governing-same pair (λ k. row′ k .pair) gap (λ k. row′ k .gap) n
+      (λ j h. ap (λ (r : Row). r .pair) (er j h)) (λ j h. ap (λ (r : Row). r .gap) (er j h)) p)
 
 -- the bearing by rows written to arrays is that by the rows
 abbrev bearingOfPair : PairFeatures → Pose → ℕ → ℕ → List (List ℕ) → List (List Float) → MaybeBearing
@@ -93,14 +104,13 @@ pub bearing-back : (f : PairFeatures) (q : Pose) (rows : List Row) (places : Lis
     → bearingOfPair f q (length rows) p (sets places 0 (map placeRow rows)) (sets values 0 (map valueRow rows))
     ≡ bearingOfPair f q (length rows) p (map placeRow rows) (map valueRow rows)
 bearing-back f q rows places values p hp hv =
-    let ps = sets places 0 (map placeRow rows) in
-    let vs = sets values 0 (map valueRow rows) in
-    let n = length rows in
-    bearing-same f q (rowAt ps vs) (rowAt (map placeRow rows) (map valueRow rows)) n
-    (λ j h. ap₂ rowIn (entry-back placeRow rows places j [] hp h) (entry-back valueRow rows values j [] hv h))
-    (governingOf (pairIn ps) (gapIn vs) n p)
-    (inside (pairIn ps) (gapIn vs) n p (governingOf (pairIn ps) (gapIn vs) n p) (governing-first (pairIn ps) (gapIn vs) n p))
-    ∙ ap (governedBearing f q (rowAt (map placeRow rows) (map valueRow rows)))
-    (governing-same (pairIn ps) (pairIn (map placeRow rows)) (gapIn vs) (gapIn (map valueRow rows)) n
-    (λ j h. ap (λ (x : List ℕ). getD x 0 0) (entry-back placeRow rows places j [] hp h))
-    (λ j h. ap (λ (x : List Float). getD x 0 nan) (entry-back valueRow rows values j [] hv h)) p)
+    governed-same f q (rowAt (sets places 0 (map placeRow rows)) (sets values 0 (map valueRow rows)))
+    (rowAt (map placeRow rows) (map valueRow rows)) (length rows)
+    (λ j h. ap₂ rowIn (entry-back placeRow rows places j [] hp h) (entry-back valueRow rows values j [] hv h)) p
+
+pub bearing-of-rows : (f : PairFeatures) (q : Pose) (rows : List Row) (none : Row) (p : ℕ)
+    → bearingOfPair f q (length rows) p (map placeRow rows) (map valueRow rows)
+    ≡ governedBearing f q (λ k. getD rows k none) (governingOf (λ k. getD rows k none .pair) (λ k. getD rows k none .gap) (length rows) p)
+bearing-of-rows f q rows none p =
+    governed-same f q (rowAt (map placeRow rows) (map valueRow rows)) (λ k. getD rows k none) (length rows)
+    (λ j h. ap₂ rowIn (get-map placeRow rows j none [] h) (get-map valueRow rows j none [] h) ∙ row-again (getD rows j none)) p

@@ -2,3 +2,4 @@ pub mod Arrays
 pub mod OfPairs
 pub mod Answer
 pub mod Over
+pub mod There

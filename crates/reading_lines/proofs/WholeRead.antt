@@ -12,8 +12,6 @@ use lib.Ieee.{Float, nan}
 use borrow.Author.Tests.{eqb-true}
 use Rattle.laws.specs.Lists.{flat, listIn}
 use Rattle.laws.specs.Loops.{joinIn}
-use Rattle.laws.proofs.Fill.{getD-filled}
-use Rattle.laws.proofs.Lists.{list-get}
 use Rattle.mechanism.specs.Rows.{placeRow, valueRow, pairIn}
 use Rattle.bodies.specs.declared.Checked.{Checked}
 use Rattle.bodies.specs.declared.Checked.the-variants.{Accepted}
@@ -24,15 +22,15 @@ use Rattle.mechanism.specs.declared.rows.Row.{Row}
 use Rattle.shown_rows.specs.Rows.{rowsOfPair, rowsOf, gradsOf, slipsOf, rowsChecked}
 use Rattle.shown_rows.proofs.AllPairs.{flat-long}
 use Rattle.bearings.specs.Bearing.{rowAt}
-use Rattle.reading.specs.Reading.{noPairReading, pairReading, readIf, readingOf}
-use Rattle.reading.specs.declared.PairReading.{PairReading}
+use Rattle.reading.specs.Reading.{readIf, readingOf}
 use Rattle.reading.specs.declared.Reading.{Reading}
 use Rattle.reading.proofs.Arrays.{read-back}
+use Rattle.reading.proofs.There.{pair-there}
 use Rattle.demand3.specs.Demand3.{only, gradOfRow, slipOfRow}
 use Rattle.demand3.proofs.Rows.{all-grads, all-slips, grad-long, slip-long, all-named}
 use Rattle.reading_lines.specs.Lines.{rowLine, columnsLine}
 use Rattle.reading_lines.specs.Readings.{rowLines, readOf, otherLines, pairLines, allLines, rowLinesIn, pairRowsIn, readingAt, pairLinesIn, allLinesIn, Held}
-use Rattle.reading_lines.proofs.WholeSizes.{Small, accepted-small, list-long}
+use Rattle.reading_lines.proofs.WholeSizes.{Small, accepted-small}
 
 -- ---- lists joined by index, and by element
 -- over the numbers from j on
@@ -129,12 +127,7 @@ module _ (m : Mechanism) (q : Pose) (margin : Float) (e : rowsChecked m q 256 25
 
   -- what is read of pair i
   read-there : (i : ℕ) → i < m .pairs .count → readingAt (readIf Accepted m q rows) i ≡ readOf m q margin i
-  read-there i h =
-      let f : ℕ → PairReading = pairReading m q (map placeRow rows) (map valueRow rows) (length rows) in
-      let n = list-long f (m .pairs .count) 0 in
-      getD-filled 16 noPairReading (listIn f (m .pairs .count) 0) i noPairReading (omega (arith, n, small .pairs)) (omega (arith, n, h))
-      ∙ list-get f noPairReading (m .pairs .count) 0 i h
-      ∙ ap f (zero-add i)
+  read-there i h = pair-there m q (map placeRow rows) (map valueRow rows) (length rows) i (small .pairs) h
 
   module _ (places : List (List ℕ)) (values : List (List Float)) (grad slip : List Float)
       (lp : length places ≡ 256) (lv : length values ≡ 256) (lg : length grad ≡ 4096) (ls : length slip ≡ 4096) where

@@ -1,4 +1,4 @@
-// The lines of a whole reading, or of a refusal, from the front of an array that has room for the longest listing.
+// The lines of a whole reading, or of a refusal, from the front of an array that has room for any listing.
 ghost use Prim.Native.Nat.{_<_, _≤_};
 ghost use Rattle.reading_lines.specs.Lines.{Room, Wrote};
 ghost use Rattle.reading_lines.specs.Readings.{Held, rowLinesIn, pairRowsIn, otherLines, allLinesIn, refusal, readLines};
@@ -21,7 +21,7 @@ use reading::PairReading;
 use reading::Reading;
 use reading::read;
 
-// Room for the longest listing.
+// Room for any listing.
 pub type Listed = [u8; 192352];
 
 // Row j and its columns, `coords` numbers each.

@@ -1,4 +1,5 @@
 // The library for callers in C and Rust: a sheet text in, its listing out. Nothing is kept between calls and nothing is allocated; the caller owns both arrays.
+ghost use Prim.Native.Nat.{_≤_};
 ghost use mathlib.Core.Path.{_≡_};
 ghost use lib.ListN.{length};
 ghost use lib.Seq.{sets};
@@ -6,7 +7,7 @@ ghost use Rattle.reading_lines.specs.Readings.{longest};
 ghost use Rattle.listing.specs.Listing.{listingOf};
 use reading_lines::whole::Listed;
 
-// How many bytes the longest listing has: the size of `out`.
+// How many bytes `out` has. No listing has more.
 #[no_mangle]
 pub extern "C" fn sewqirun_longest() -> usize
     ensures { λ r. ⌜ r ≡ longest ⌝ }
@@ -14,10 +15,11 @@ pub extern "C" fn sewqirun_longest() -> usize
     192352
 }
 
-// Writes the listing of a sheet text from the front of `out`, and answers how long it is; everything behind it stays.
+// Writes the listing of a sheet text from the front of `out`, and answers how long it is; everything behind it stays. No listing is longer than `out`.
 #[no_mangle]
 pub extern "C" fn sewqirun_listing(text: &[u8], out: &mut Listed) -> usize
     ensures { λ r. ⌜ (r ≡ length (listingOf (now (text .entry)))) × (now (out .exit) ≡ sets (now (out .entry)) 0 (listingOf (now (text .entry)))) ⌝ }
+    ensures fits { λ r. ⌜ r ≤ length (now (out .exit)) ⌝ }
 {
     listing::whole::listing(text, out)
 }

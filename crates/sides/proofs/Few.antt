@@ -32,11 +32,11 @@ use Rattle.corners.specs.declared.MaybeDisc.{MaybeDisc}
 use Rattle.corners.specs.declared.MaybeDisc.the-variants.{NoDisc, SomeDisc}
 use Rattle.sides.specs.declared.PlacedFace.{PlacedFace}
 use Rattle.sides.specs.declared.SideFeatures.{SideFeatures}
-use Rattle.sides.specs.declared.contacts.PairFeatures.{PairFeatures}
 use Rattle.corners.specs.Corners.{faceOf, arcOf, cornerOf}
 use Rattle.sides.specs.Features.{Run, placedFace, placedDisc, facesOfSeg, discsOfSeg, facesAt, stepAt, stepDiscs, endDiscs, rangeFaces, rangeDiscs, opening, previousAt, runAt, facesOfRange, discsOfRange, facesOf, discsOf, lastBefore, firstAfter, lastSeg, between, meets, traversalsOf, sideOf}
 use Rattle.sides.specs.Bounds.{total, Runs, DrawnSide, rowBound}
 use Rattle.sides.specs.Contacts.{centerOfB, pairFeatures, pairBound, mechanismBound}
+use Rattle.sides.specs.Sizes.{FewOnSide, FewFeatures, Sized}
 use Rattle.sides.proofs.Sizes.{drawn-runs}
 use Rattle.sides.proofs.Accepted.{accepted-drawn}
 
@@ -173,18 +173,8 @@ rows-few a b c d h g =
     let r : a * d ≡ d * a = mul-comm a d in
     omega arith
 
--- ---- of a description
-pub record FewOnSide (f : SideFeatures) : Type 0 where
-  pub faces : f .faces ≤ 12
-  pub discs : f .discs ≤ 28
-  pub features : f .faces + f .discs ≤ 28
-
-pub record FewFeatures (geometry : PairGeometry) (f : PairFeatures) : Type 0 where
-  pub a : FewOnSide (f .a)
-  pub b : FewOnSide (f .b)
-  pub rows : rowBound geometry (f .a) (f .b) ≤ 784
-
-side-few : (ps : Parts) (o : Outlines) (u : Surface) (wanted : Bool) → DrawnSide ps u → FewOnSide (sideOf ps o u wanted)
+-- ---- of a side and of a pair that are drawn
+pub side-few : (ps : Parts) (o : Outlines) (u : Surface) (wanted : Bool) → DrawnSide ps u → FewOnSide (sideOf ps o u wanted)
 unfolding sideOf
 side-few ps o u wanted d =
     let r = drawn-runs ps o u d in
@@ -195,7 +185,7 @@ bound-few : (g : PairGeometry) (a b : SideFeatures) → FewOnSide a → FewOnSid
 bound-few Features a b p q = rows-few (a .faces) (a .discs) (b .faces) (b .discs) (p .features) (q .features)
 bound-few CenterBearing a b p q = let h = p .faces in omega arith
 
-pair-few : (ps : Parts) (o : Outlines) (p : ContactPair) → DrawnSide ps (p .a) → DrawnSide ps (p .b) → FewFeatures (p .geometry) (pairFeatures ps o p)
+pub pair-few : (ps : Parts) (o : Outlines) (p : ContactPair) → DrawnSide ps (p .a) → DrawnSide ps (p .b) → FewFeatures (p .geometry) (pairFeatures ps o p)
 unfolding pairFeatures
 pair-few ps o p d e =
     let a = side-few ps o (p .a) false d in
@@ -221,3 +211,6 @@ bounds-upto f (suc k) h =
 pub accepted-bound : (m : Mechanism) → checkOf m ≡ Accepted → mechanismBound m ≤ 784 * m .pairs .count
 unfolding mechanismBound
 accepted-bound m e = bounds-upto (pairBound m) (m .pairs .count) (λ i h. accepted-few-features m e i h .rows)
+
+pub accepted-sized : (m : Mechanism) → checkOf m ≡ Accepted → Sized m
+accepted-sized m e = record { pair = λ i h. accepted-few-features m e i h; bound = accepted-bound m e }

@@ -1,3 +1,4 @@
 pub mod Features
 pub mod Bounds
 pub mod Contacts
+pub mod Sizes

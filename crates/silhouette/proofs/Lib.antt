@@ -2,3 +2,4 @@ pub mod Known
 pub mod Walks
 pub mod Lengths
 pub mod BySegment
+pub mod Closed

@@ -1,5 +1,6 @@
 -- Parts and their silhouettes (contact/mod.rs), operation by operation. Definitions only.
-use Prim.Native.Nat.{ℕ, _+_, _-_, _%_}
+use Prim.Native.Nat.{ℕ, _+_, _-_, _%_, _≤_}
+use mathlib.Core.Path.{_≡_}
 use mathlib.Core.Bool.{Bool, true, not, _&&_, _||_, cond}
 use mathlib.Core.List.{List, [], _++_, map, reverse}
 use lib.Dec.{leb, ltb}
@@ -15,8 +16,8 @@ use Rattle.geometry.specs.declared.Point.{Point}
 use Rattle.geometry.specs.declared.Dir.{Dir}
 use Rattle.geometry.specs.declared.Seg.{Seg}
 use Rattle.geometry.specs.declared.Seg.the-variants.{Line, Arc}
-use Rattle.mechanism.specs.Check.{samePoint, partsOver}
-use Rattle.mechanism.specs.Description.{partAt, segsOf, startOfPart, silhouetteLength}
+use Rattle.mechanism.specs.Check.{pointFinite, samePoint, partsOver, outlineOpen}
+use Rattle.mechanism.specs.Description.{segAt, partAt, segsOf, startOfPart, silhouetteLength}
 use Rattle.mechanism.specs.declared.Parts.{Parts}
 use Rattle.mechanism.specs.declared.Outlines.{Outlines}
 use Rattle.mechanism.specs.declared.part.OutlineSeg.{OutlineSeg}
@@ -151,3 +152,12 @@ outlineOf ps o i = outlineFrom o (startOfPart ps i) (segsOf ps i)
 -- none where there is no such part
 unfoldable pub silhouetteAt : Parts → Outlines → ℕ → List Seg
 silhouetteAt ps o i = cond (isPart ps i) (silhouetteOf (partAt ps i .sweep) (outlineOf ps o i)) []
+
+-- ---- refusal 7 and Part::is_closed (mechanism/mod.rs: `!finite || !part.is_closed()`)
+abbrev pub segFinite : Seg → Bool
+segFinite s = pointFinite (startOf s) && pointFinite (endOf s)
+
+-- of n segments from the one numbered `first` on, all of them in the array, 7 refuses exactly where one is not finite or the outline is not closed
+pub record ClosedAs7 : Type 0 where
+  pub refused : (o : Outlines) (first n : ℕ) → first + n ≤ length (o .seg)
+      → outlineOpen o first n ≡ (anyIn (λ i. not (segFinite (segAt o (first + i)))) n 0 || not (closedOf (outlineFrom o first n)))

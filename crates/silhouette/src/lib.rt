@@ -270,6 +270,7 @@ fn counted(o: Outline) -> Outline
     Outline { count: 48, seg }
 }
 
+// The part as the section sees it: its outline, or, turned about an axis, its chain and the chain's mirror.
 fn silhouette_counted(o: Outline, sweep: Sweep) -> SilhouetteSegs
     requires { ⌜ o .count ≤ 48 ⌝ }
     ensures { λ r. ⌜ r ≡ asSilhouette (silhouetteOf sweep (outlineIn o)) ⌝ }
@@ -285,13 +286,6 @@ fn silhouette_counted(o: Outline, sweep: Sweep) -> SilhouetteSegs
             }
         }
     }
-}
-
-// The part as the section sees it: its outline, or, turned about an axis, its chain and the chain's mirror.
-pub fn silhouette(o: Outline, sweep: Sweep) -> SilhouetteSegs
-    ensures { λ r. ⌜ r ≡ asSilhouette (silhouetteOf sweep (outlineIn o)) ⌝ }
-{
-    silhouette_counted(counted(o), sweep)
 }
 
 // ---- Part::is_closed
@@ -329,7 +323,7 @@ fn closed_counted(o: Outline) -> bool
     true
 }
 
-// Whether each segment ends where the next begins, and the last where the first begins, bit for bit.
+// Whether each segment ends where the next begins, and the last where the first begins, bit for bit. Refusal 7 asks this of a part's outline, and that its ends are finite (`ClosedAs7`).
 pub fn is_closed(o: Outline) -> bool
     ensures { λ r. ⌜ r ≡ closedOf (outlineIn o) ⌝ }
 {

@@ -32,7 +32,8 @@ use Rattle.sides.specs.declared.PlacedDisc.{PlacedDisc}
 use Rattle.sides.specs.declared.PlacedFace.{PlacedFace}
 use Rattle.sides.specs.declared.SideFeatures.{SideFeatures}
 use Rattle.sides.specs.declared.contacts.PairFeatures.{PairFeatures}
-use Rattle.sides.proofs.Few.{FewOnSide, accepted-few-features}
+use Rattle.sides.specs.Sizes.{FewOnSide}
+use Rattle.sides.proofs.Few.{accepted-few-features}
 use Rattle.strips.specs.Strips.{atMost, factsFrom, faceFrom, discFrom, pieceFrom, pointFrom, pointAt, faceRow, discRow, pieceRow, sideAt, sideIn, pairIn, facesOfSide, discsOfSide, rowA, rowB, rowOfMaterial, rowOfSampled}
 use Rattle.strips.specs.declared.SideFacts.{SideFacts}
 use Rattle.strips.proofs.Rows.{piece-back}

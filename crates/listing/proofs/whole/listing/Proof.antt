@@ -1,3 +1,5 @@
+use native.Mathlib.Omega.{arith}
+use Rattle.listing.proofs.WholeFits.{fits-inside}
 use Rattle.listing.proofs.WholeLaws.{sheet-refused, sheet-accepted, listed}
 use borrow.Author.Needs.{needs}
 use Rattle.listing.proofs.whole.listing.Statement.{statement}
@@ -19,10 +21,20 @@ posed-lines-requires : tie.Need-posed-lines-requires
 posed-lines-requires c κs = search needs
 
 returns : tie.Need-returns
-returns c = listed (sheet-refused (c .before .before .before .before .before .before .before .args .text .now) (c .before .before .before .before .before .read .ensures) _ (c .before .before .before .c .given .1)) (c .refused .ensures)
+returns c =
+    let s = c .before .before .before .before .before in
+    let k = s .before .before in
+    let a = k .args in
+    let w = listed (sheet-refused (a .text .now) (s .read .ensures) _ (c .before .before .before .c .given .1)) (c .refused .ensures) in
+    (w, fits-inside (a .text .now) (a .out .now) (omega (arith, k .good .1 .0)) w)
 
 returns-2 : tie.Need-returns-2
-returns-2 c = listed (sheet-accepted (c .before .before .before .before .before .before .before .before .args .text .now) (c .before .before .before .before .before .before .read .ensures) (c .before .before .before .before .enum-told .given .1)) (c .posed-lines .ensures)
+returns-2 c =
+    let s = c .before .before .before .before .before .before in
+    let k = s .before .before in
+    let a = k .args in
+    let w = listed (sheet-accepted (a .text .now) (s .read .ensures) (c .before .before .before .before .enum-told .given .1)) (c .posed-lines .ensures) in
+    (w, fits-inside (a .text .now) (a .out .now) (omega (arith, k .good .1 .0)) w)
 
 pub listing-spec : {M : Type 1} → statement M
 listing-spec =
