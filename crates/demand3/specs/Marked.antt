@@ -61,9 +61,9 @@ pub record Marked : Type 0 where
   pub half-turn-out : inSector (at zeroF (neg oneF)) (toward oneF zeroF) (toward (neg oneF) zeroF) ≡ false
   pub no-sweep : (u : Point) → inSector u (toward oneF zeroF) (toward oneF zeroF) ≡ false
   -- on the face: centre (0.5,2): gap 1, point (0.5,1.5); centre (0,2) reads, (-0.5,2) does not; read as a bearing's centre, whose row has the face's normal turned round
-  pub centre-above : centerOnFace (at halfF twoF) top ≡ SomeProximity (record { gap = oneF; normal = toward (neg zeroF) (neg oneF); point = at halfF (decimal 15 10) })
-  pub centre-at-the-end : reads (centerOnFace (at zeroF twoF) top) ≡ true
-  pub centre-past-the-end : reads (centerOnFace (at (neg halfF) twoF) top) ≡ false
+  pub center-above : centerOnFace (at halfF twoF) top ≡ SomeProximity (record { gap = oneF; normal = toward (neg zeroF) (neg oneF); point = at halfF (decimal 15 10) })
+  pub center-at-the-end : reads (centerOnFace (at zeroF twoF) top) ≡ true
+  pub center-past-the-end : reads (centerOnFace (at (neg halfF) twoF) top) ≡ false
   -- and as the centre of a corner's disc
   pub above : discOnFace (corner halfF twoF) top ≡ SomeProximity (record { gap = oneF; normal = toward zeroF oneF; point = at halfF (decimal 15 10) })
   pub at-the-end : reads (discOnFace (corner zeroF twoF) top) ≡ true

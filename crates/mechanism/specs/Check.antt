@@ -5,18 +5,12 @@ use lib.Dec.{ltb, leb, eqb}
 use lib.Ieee.{Float, isNan}
 use Rattle.laws.specs.Loops.{anyIn, foldIn}
 use Rattle.ieee.specs.Num.{finite, sameOf}
-use Rattle.geometry.specs.Geometry.{dirOf, startOf, endOf}
+use Rattle.geometry.specs.Geometry.{startOf, endOf}
 use Rattle.geometry.specs.declared.Point.{Point}
-use Rattle.geometry.specs.declared.Dir.{Dir}
-use Rattle.geometry.specs.declared.MaybeDir.{MaybeDir}
-use Rattle.geometry.specs.declared.MaybeDir.the-variants.{SomeDir, NoDir}
 use Rattle.geometry.specs.declared.Seg.{Seg}
 use Rattle.geometry.specs.declared.Seg.the-variants.{Line, Arc}
 use Rattle.bodies.specs.Check.{andThen, refusedIf, firstRefused, bodiesChecked, dirLacks, bodiesLack}
-use Rattle.bodies.specs.Description.{bodyAt}
 use Rattle.mechanism.specs.Description.{partAt, pairAt, rangeAt, segAt, segsOf, startOfPart, silhouetteLength, sideLength}
-use Rattle.bodies.specs.declared.Joint.{Joint}
-use Rattle.bodies.specs.declared.Joint.the-variants.{Ground, Revolute, Prismatic}
 use Rattle.bodies.specs.declared.Bodies.{Bodies}
 use Rattle.mechanism.specs.declared.Parts.{Parts}
 use Rattle.mechanism.specs.declared.Outlines.{Outlines}

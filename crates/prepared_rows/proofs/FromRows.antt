@@ -3,7 +3,7 @@ use Prim.Native.Nat.{ℕ, _+_, _*_, _≤_}
 use native.Mathlib.Omega.{arith}
 use native.Mathlib.Nat.{mul-le-mul}
 use mathlib.Core.Path.{_≡_, refl, sym, ap, ap₂, _∙_}
-use mathlib.Core.Bool.{Bool, true, false, cond, not, _&&_, _||_, false≢true}
+use mathlib.Core.Bool.{Bool, true, false, cond, not, _&&_, false≢true}
 use mathlib.Core.List.{List, [], map}
 use lib.Dec.{leb, ltb, eqb}
 use lib.Ieee.{Float}
@@ -11,9 +11,9 @@ use lib.ListN.{length, getD, length-map}
 use lib.Seq.{sets}
 use borrow.Author.Tests.{le-leb, ltb-false}
 use Rattle.laws.specs.Loops.{anyIn}
-use Rattle.laws.proofs.Choice.{and-yes, cond-yes, neither}
+use Rattle.laws.proofs.Choice.{and-yes, cond-yes}
 use Rattle.geometry.specs.Geometry.{vectorOf}
-use Rattle.bodies.specs.Check.{andThen, refusedIf, isAccepted, bodiesStand, bodiesChecked}
+use Rattle.bodies.specs.Check.{andThen, refusedIf, isAccepted, bodiesStand}
 use Rattle.mechanism.specs.Rows.{placeRow, valueRow}
 use Rattle.bodies.specs.declared.Bodies.{Bodies}
 use Rattle.bodies.specs.declared.Checked.{Checked}
@@ -30,7 +30,6 @@ use Rattle.prepared_candidates.specs.Prepared.{boundIn, roomForPair, candidates
 use Rattle.proximities.specs.declared.Candidate.{Candidate}
 use Rattle.proximities.proofs.Wrote.{wrote-same, wrote-near, wrote-named}
 use Rattle.pair_rows.specs.declared.Source.{Source}
-use Rattle.bodies.proofs.Checks.{passed, no-refusal}
 use Rattle.shown_rows.proofs.Answer.{has-room-for}
 use Rattle.pair_rows.proofs.Behind.{room-there, put-was-there}
 use Rattle.pair_rows.specs.PairRows.{PutShown, roomBehind, shownIn, Put, Room, placeIn, leftOf}
