@@ -5,21 +5,24 @@ use mathlib.Core.Bool.{Bool, true, false, cond, _||_}
 use mathlib.Core.Logic.{inl, inr}
 use mathlib.Core.List.{List, []}
 use Prim.Native.Nat.{ℕ, zero, suc, _+_, _-_, _%_, _≤_, _<_}
-use native.Mathlib.Nat.{mod-lt}
+use native.Mathlib.Nat.{mod-lt, sub-zero}
+use native.Mathlib.Numerals.{add-one}
 use native.Mathlib.Omega.{arith}
 use borrow.Author.Count.{below-more}
 use lib.Dec.{T}
 use lib.ListN.{length, getD, drop, length-map, length-take, length-drop, List·getD-map}
 use lib.Seq.{getD-take, getD-drop}
-use lib.Ieee.{Float, binary64, div, ofBits, nan, inf, fin, lt, le}
+use lib.Ieee.{Float, binary64, div, ofBits, nan, neg, inf, fin, lt, le}
 use Rattle.laws.specs.Lists.{listIn, foldl, any}
 use Rattle.laws.proofs.Choice.{holds, is-true, is-false, cond-no, and-no, or-cases}
 use Rattle.laws.proofs.Order.{lt-trans, lt-eq, eq-lt}
-use Rattle.ieee.specs.Consts.{zeroF}
+use Rattle.ieee.specs.Consts.{zeroF, infinityF}
 use Rattle.ieee.proofs.MinRoot.{lt-le, le-cases, le-not-lt}
 use Rattle.geometry.specs.declared.Point.{Point}
 use Rattle.material.specs.Material.{Edge, nowhere, edgeAt, crossOf, turnedBy, insideOf, polyAt, pointOf, pointsOf, between, materialOf, holdsOf, squareDepth}
-use Rattle.material.specs.Range.{Covers, lowOf, highOf, ordinate, outsideOf}
+use Rattle.material.specs.Range.{lowOf, highOf, rangeWith, rangeOf, outsideOf}
+use Rattle.material.specs.declared.Range.{Range}
+use Rattle.material.proofs.Parts.{rowPoint, points-of-rows}
 
 -- ---- the order, with `le` on one side
 lt-of-le : (x y z : Float) → T (lt x y) → T (le y z) → T (lt x z)
@@ -60,16 +63,49 @@ module _ (hi y v : Float) where
   high-new true e h k = le-not-lt v y h k
   high-new false e h k = subst T e (le-of-lt hi y v h k)
 
-pub covers-none : (l : List (List Float)) (lo hi : Float) → Covers l 0 lo hi
+-- ---- the range of the ordinates
+abbrev noRange : Range
+noRange = record { lo = infinityF; hi = neg infinityF }
+
+abbrev pub ordinate : List (List Float) → ℕ → Float
+ordinate l i = getD (getD l i []) 1 nan
+
+-- each of the first n points lies above all that is below lo, and none of them above hi or more
+pub record Covers (l : List (List Float)) (n : ℕ) (lo hi : Float) : Type 0 where
+  pub under : (y : Float) → T (lt y lo) → (i : ℕ) → i < n → lt y (ordinate l i) ≡ true
+  pub over : (y : Float) → T (le hi y) → (i : ℕ) → i < n → lt y (ordinate l i) ≡ false
+
+covers-none : (l : List (List Float)) (lo hi : Float) → Covers l 0 lo hi
 covers-none l lo hi = record { under = λ y t i h. absurd (native.Mathlib.Nat.not-suc-le-zero h); over = λ y t i h. absurd (native.Mathlib.Nat.not-suc-le-zero h) }
 
-pub covers-more : (l : List (List Float)) (n : ℕ) (lo hi : Float) → Covers l n lo hi → Covers l (n + 1) (lowOf lo (ordinate l n)) (highOf hi (ordinate l n))
+covers-more : (l : List (List Float)) (n : ℕ) (lo hi : Float) → Covers l n lo hi → Covers l (n + 1) (lowOf lo (ordinate l n)) (highOf hi (ordinate l n))
 covers-more l n lo hi c = record {
   under = λ y t. below-more (λ (i : ℕ). lt y (ordinate l i) ≡ true) n (c .under y (low-old y lo (ordinate l n) (le lo (ordinate l n)) (lt (ordinate l n) lo) refl t))
       (is-true (lt y (ordinate l n)) (low-new y lo (ordinate l n) (le lo (ordinate l n)) (lt (ordinate l n) lo) refl t));
   over = λ y t. below-more (λ (i : ℕ). lt y (ordinate l i) ≡ false) n (c .over y (high-old hi y (ordinate l n) (lt hi (ordinate l n)) refl t))
       (is-false (lt y (ordinate l n)) (high-new hi y (ordinate l n) (lt hi (ordinate l n)) refl t));
 }
+
+-- the range of all points, from that of the first j on
+module _ (l : List (List Float)) where
+  covers-from : (k j n : ℕ) → j + k ≡ n → (r : Range) → Covers l j (r .lo) (r .hi)
+      → Covers l n (foldl rangeWith r (listIn (rowPoint l) k j) .lo) (foldl rangeWith r (listIn (rowPoint l) k j) .hi)
+  unfolding foldl listIn
+  covers-from zero j n e r c = let h : j ≡ n = omega arith in subst (λ (i : ℕ). Covers l i (r .lo) (r .hi)) h c
+  covers-from (suc k) j n e r c =
+      let m = rangeWith r (rowPoint l j) in
+      covers-from k (suc j) n (omega arith) m (subst (λ (i : ℕ). Covers l i (m .lo) (m .hi)) (add-one j) (covers-more l j (r .lo) (r .hi) c))
+
+  pub range-covers : Covers l (length l) (rangeOf l .lo) (rangeOf l .hi)
+  unfolding rangeOf
+  range-covers =
+      subst (λ (ps : List Point). Covers l (length l) (foldl rangeWith noRange ps .lo) (foldl rangeWith noRange ps .hi)) (sym (points-of-rows l))
+      (covers-from (length l) 0 (length l) (omega arith) noRange (covers-none l _ _))
+
+  -- the loop's first turn
+  pub range-starts : (a b : Float) → a ≡ infinityF → b ≡ infinityF → foldl rangeWith (record { lo = a; hi = neg b }) (listIn (rowPoint l) (length l - 0) 0) ≡ rangeOf l
+  unfolding rangeOf
+  range-starts a b e f = rw (e, f, sub-zero) (ap (foldl rangeWith noRange) (sym (points-of-rows l)))
 
 -- ---- no crossing where both ends lie on one side
 no-cross : (p : Point) (e : Edge) (b : Bool) → lt (p .y) (e .a .y) ≡ b → lt (p .y) (e .b .y) ≡ b → crossOf p e ≡ false
@@ -117,19 +153,20 @@ module _ (p : Point) (l : List (List Float)) (b : Bool) (side : (i : ℕ) → i 
   not-held : (starts : List ℕ) (solids all : ℕ) → holdsOf (materialOf l starts solids all) p ≡ false
   not-held starts solids all = and-no _ (none-inside starts solids 0)
 
-module _ (l : List (List Float)) (starts : List ℕ) (solids all : ℕ) (lo hi : Float) (p : Point) (c : Covers l (length l) lo hi) where
+module _ (l : List (List Float)) (starts : List ℕ) (solids all : ℕ) (p : Point) where
   -- outside the range of all points nothing holds p
-  outside-held : outsideOf lo hi (p .y) ≡ true → holdsOf (materialOf l starts solids all) p ≡ false
-  outside-held h = elim (or-cases (lt (p .y) lo) (le hi (p .y)) (holds h)) [
-    | inl t ↦ not-held p l true (c .under (p .y) t) starts solids all
-    | inr t ↦ not-held p l false (c .over (p .y) t) starts solids all
+  outside-held : outsideOf (rangeOf l .lo) (rangeOf l .hi) (p .y) ≡ true → holdsOf (materialOf l starts solids all) p ≡ false
+  outside-held h = elim (or-cases (lt (p .y) (rangeOf l .lo)) (le (rangeOf l .hi) (p .y)) (holds h)) [
+    | inl t ↦ not-held p l true (range-covers l .under (p .y) t) starts solids all
+    | inr t ↦ not-held p l false (range-covers l .over (p .y) t) starts solids all
   ]
 
   -- THE LAW: outside the range of all points the square of the depth is zero
-  pub within-square : cond (outsideOf lo hi (p .y)) zeroF (squareDepth (materialOf l starts solids all) p) ≡ squareDepth (materialOf l starts solids all) p
+  pub within-square : (r : Range) → r ≡ rangeOf l
+      → cond (outsideOf (r .lo) (r .hi) (p .y)) zeroF (squareDepth (materialOf l starts solids all) p) ≡ squareDepth (materialOf l starts solids all) p
   unfolding squareDepth
-  within-square = go (outsideOf lo hi (p .y)) refl
+  within-square r e = rw e (go (outsideOf (rangeOf l .lo) (rangeOf l .hi) (p .y)) refl)
     where
-      go : (b : Bool) → outsideOf lo hi (p .y) ≡ b → cond b zeroF (squareDepth (materialOf l starts solids all) p) ≡ squareDepth (materialOf l starts solids all) p
+      go : (b : Bool) → outsideOf (rangeOf l .lo) (rangeOf l .hi) (p .y) ≡ b → cond b zeroF (squareDepth (materialOf l starts solids all) p) ≡ squareDepth (materialOf l starts solids all) p
       go true h = sym (cond-no _ _ (outside-held h))
       go false h = refl

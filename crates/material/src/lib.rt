@@ -2,13 +2,13 @@
 ghost use mathlib.Core.Path.{_≡_};
 ghost use mathlib.Core.Bool.{false, cond};
 ghost use Prim.Native.Nat.{_-_, _%_, _<_, _≤_};
-ghost use lib.ListN.{length, getD};
+ghost use lib.ListN.{getD};
 ghost use lib.Ieee.{isNan};
 ghost use Rattle.laws.specs.Lists.{listIn, foldl, any};
 ghost use Rattle.ieee.specs.Consts.{zeroF};
 ghost use Rattle.ieee.specs.Num.{minOf, maxOf};
 ghost use Rattle.material.specs.Material.{crossOf, insideOf, holdsOf, squareOf, Serves, squareDepth, depthOf, pointsOf, between, polyAt, materialOf, edgesOf};
-ghost use Rattle.material.specs.Range.{lowOf, highOf, Covers, outsideOf};
+ghost use Rattle.material.specs.Range.{lowOf, highOf, rangeOf, outsideOf};
 use geometry::Point;
 use ieee::num::choose;
 use ieee::num::clamp;
@@ -236,7 +236,7 @@ fn high(hi: f64, y: f64) -> f64
 
 // The range of the points' ordinates.
 pub fn y_range(points: &[Spot]) -> Range
-    ensures { λ r. ⌜ Covers (now (points .entry)) (length (now (points .entry))) (r .lo) (r .hi) ⌝ }
+    ensures { λ r. ⌜ r ≡ rangeOf (now (points .entry)) ⌝ }
 {
     let n = points.len();
     let mut lo = infinity();

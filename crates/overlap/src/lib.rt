@@ -15,7 +15,7 @@ ghost use Rattle.mechanism.specs.Segments.{outlinesIn, described, segsCounted};
 ghost use Rattle.bodies.specs.Pose.{worldOf};
 ghost use Rattle.silhouette.specs.Silhouette.{silhouetteFrom};
 ghost use Rattle.material.specs.Material.{pointsOf, materialOf, depthOf, deepestSquare};
-ghost use Rattle.material.specs.Range.{Covers};
+ghost use Rattle.material.specs.Range.{rangeOf};
 ghost use Rattle.drawing.specs.Drawing.{isSampled, isReadCut, whatIs, chosenMaterial};
 ghost use Rattle.drawing.specs.Samples.{mouthsIn, samplesOf};
 ghost use Rattle.overlap.specs.Overlap.{sunkBy, sunkOf, ownerIn, featuresOverlap, centerOverlap, pairOverlap, pairOverlapAt, isIn, allParts, pairOverlapAnswer, overlapAnswer, partsOverlap, partsOverlapAnswer, ownerAt, asOwners};
@@ -82,7 +82,7 @@ fn deepest_in(
     samples: &[Spot],
     from: f64,
 ) -> f64
-    requires { ⌜ Covers (now points) (length (now points)) (range .lo) (range .hi) ⌝ }
+    requires { ⌜ range ≡ rangeOf (now points) ⌝ }
     ensures { λ r. ⌜ r ≡ deepestSquare (materialOf (now (points .entry)) (now (starts .entry)) (n .solids) (n .all)) from (pointsOf (now (samples .entry))) ⌝ }
 {
     let k = samples.len();
@@ -110,7 +110,7 @@ fn sunk_part(
     place: Placement,
     from: f64,
 ) -> f64
-    requires { ⌜ (p .segs ≤ 48) × (first + p .segs ≤ length (now segs)) × Covers (now points) (length (now points)) (range .lo) (range .hi) ⌝ }
+    requires { ⌜ (p .segs ≤ 48) × (first + p .segs ≤ length (now segs)) × (range ≡ rangeOf (now points)) ⌝ }
     ensures { λ r. ⌜ r ≡ deepestSquare (materialOf (now (points .entry)) (now (starts .entry)) (n .solids) (n .all)) from (map (worldOf place) (flat (samplesOf (mouthsIn (now (mouths .entry)))) (silhouetteFrom (outlinesIn (now (segs .entry))) first p))) ⌝ }
 {
     let mut samples = [[0.0; 2]; 17];

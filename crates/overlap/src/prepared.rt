@@ -7,7 +7,7 @@ ghost use Rattle.laws.specs.Lists.{listIn};
 ghost use Rattle.ieee.specs.Consts.{zeroF};
 ghost use Rattle.ieee.specs.Num.{maxOf};
 ghost use Rattle.material.specs.Material.{materialOf, depthOf, deepestSquare};
-ghost use Rattle.material.specs.Range.{Covers};
+ghost use Rattle.material.specs.Range.{rangeOf};
 ghost use Rattle.bodies.specs.Pose.{worldOf};
 ghost use Rattle.strips.specs.Strips.{pointAt, rowOfMaterial, rowOfSampled};
 ghost use Rattle.drawing.specs.Prepared.{allDrawn, choiceAt, materialIn};
@@ -61,7 +61,7 @@ fn sunk_part(
     place: Placement,
     from: f64,
 ) -> f64
-    requires { ⌜ (first ≤ 65535) × (count ≤ 1598) × Covers (now points) (length (now points)) (range .lo) (range .hi) ⌝ }
+    requires { ⌜ (first ≤ 65535) × (count ≤ 1598) × (range ≡ rangeOf (now points)) ⌝ }
     ensures { λ r. ⌜ r ≡ deepestSquare (materialOf (now (points .entry)) (now (starts .entry)) (n .solids) (n .all)) from (map (worldOf place) (listIn (pointAt (now (sampled .entry))) count first)) ⌝ }
 {
     let mut d = from;

@@ -51,7 +51,7 @@ loop-again c =
     let s = a .args in
     let m = materialOf (s .points .now) (s .starts .now) (s .n .solids) (s .n .all) in
     let e : maxOf (l .d) (squareDepth m (rowPoint (s .samples .now) (l .i))) ≡ c .deeper-square .result =
-    sym (c .deeper-square .ensures ∙ ap (maxOf (l .d)) (within-square (s .points .now) (s .starts .now) (s .n .solids) (s .n .all) (s .range .lo) (s .range .hi) _ (a .pre))) in
+    sym (c .deeper-square .ensures ∙ ap (maxOf (l .d)) (within-square (s .points .now) (s .starts .now) (s .n .solids) (s .n .all) _ (s .range) (a .pre))) in
     (omega arith, fold-on (λ x p. maxOf x (squareDepth m p)) (rowPoint (s .samples .now)) (length (s .samples .now)) (l .i) (omega arith) e ∙ l .inv .1)
 
 returns : tie.Need-returns Inv-loop μ-loop

@@ -54,7 +54,7 @@ loop-again c =
     let p : w ≡ worldOf (s .place) (pointAt (s .sampled .now) (s .first + l .i)) = c .before .world .ensures ∙ ap (worldOf (s .place)) (c .before .before .point-at .ensures) in
     let e : maxOf (l .d) (squareDepth m (worldOf (s .place) (pointAt (s .sampled .now) (s .first + l .i)))) ≡ c .deeper-square .result =
     sym (c .deeper-square .ensures
-    ∙ ap (maxOf (l .d)) (within-square (s .points .now) (s .starts .now) (s .n .solids) (s .n .all) (s .range .lo) (s .range .hi) w (a .pre .2) ∙ ap (squareDepth m) p)) in
+    ∙ ap (maxOf (l .d)) (within-square (s .points .now) (s .starts .now) (s .n .solids) (s .n .all) w (s .range) (a .pre .2) ∙ ap (squareDepth m) p)) in
     squares-more m (worldOf (s .place)) (pointAt (s .sampled .now)) (s .first) (s .count) (l .d) (c .deeper-square .result) (l .i) (omega arith) e ∙ l .inv
 
 returns : tie.Need-returns Inv-loop μ-loop
