@@ -1,4 +1,4 @@
--- What `rows` answers and leaves in the lent arrays, refused and accepted. Assumes nothing.
+-- What `rows_in_numbers` answers and leaves in the lent arrays, refused and accepted. Assumes nothing.
 use Prim.Native.Nat.{ℕ, _*_, _≤_}
 use native.Mathlib.Omega.{arith}
 use native.Mathlib.Nat.{zero-add, zero-mul, mul-le-mul}

@@ -149,7 +149,7 @@ pub fn refused(p: Problem) -> RowsAnswer
 }
 
 // Writes the rows of every pair whose gap is not above the margin, with their gradients and slips, one float a coordinate each; everything past the last row stays.
-pub fn rows(
+pub fn rows_in_numbers(
     m: Mechanism,
     q: Pose,
     margin: f64,

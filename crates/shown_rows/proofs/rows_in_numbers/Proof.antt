@@ -6,8 +6,8 @@ use Rattle.bodies.specs.declared.Problem.the-variants.{TooFewRows}
 use Rattle.mechanism.proofs.Checks.{call-accepted}
 use Rattle.shown_rows.proofs.Answer.{room-is, has-room, columns-small, answers-refused, answers-rows, all-refused, all-accepted, too-few}
 use borrow.Author.Needs.{needs}
-use Rattle.shown_rows.proofs.rows.Statement.{statement}
-use Rattle.shown_rows.proofs.rows.Tie as tie
+use Rattle.shown_rows.proofs.rows_in_numbers.Statement.{statement}
+use Rattle.shown_rows.proofs.rows_in_numbers.Tie as tie
 
 fits-requires : tie.Need-fits-requires
 fits-requires c κs = search needs
@@ -75,8 +75,8 @@ returns-3 c =
     (too-few (s .m) (s .q) _ _ _ _ (ap (λ f. callChecked (s .m) f true true) (sym (c .before .before .before .before .before .before .before .fits2 .ensures)) ∙ sym (c .before .before .before .before .before .before .call-checked .ensures) ∙ c .before .before .before .before .enum-told .given .1) (room-is (s .m) (s .places .now) (s .values .now) (s .grad .now) (s .slip .now) (c .before .before .before .bound-of .ensures .0) (c .before .if1 .left)))
     (c .refused2 .ensures)
 
-pub rows-spec : {M : Type 1} → statement M
-rows-spec =
+pub rows-in-numbers-spec : {M : Type 1} → statement M
+rows-in-numbers-spec =
     tie.close
     (tie.spec
     fits-requires
