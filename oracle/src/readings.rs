@@ -1,7 +1,7 @@
 //! Readings of the original, for the texts that the program reading_calls reads.
 //!   readings answers       the original's readings for each text on standard input, as that program prints them
 //!   readings digests       the same as one number each, as the program prepared_calls prints them
-//!   readings room          the room that `rows` asks for, as the program room_calls prints it
+//!   readings room          the room that `rows_in_numbers` asks for, as the program room_calls prints it
 //!   readings tally         how many accepted texts on standard input have what
 //!   readings records SEED  built with `--cfg records`: the rows of each accepted text on standard input, and made-up ones, through the static library `row_exports`; last line 'N equal, M different', in texts
 mod checks;

@@ -34,7 +34,7 @@ use mechanism::rows::Place;
 use mechanism::rows::Value;
 use overlap::pair_overlap_at;
 use shown_rows::RowsAnswer;
-use shown_rows::rows;
+use shown_rows::rows_in_numbers;
 use sides::contacts::PairFeatures;
 use sides::contacts::pair_features_at;
 
@@ -123,7 +123,7 @@ fn refused(p: Problem) -> Reading
     }
 }
 
-// Writes the rows of every pair whose gap is not above the margin, with their gradients and slips, as `rows` does, and reads the overlaps and the bearing of every pair.
+// Writes the rows of every pair whose gap is not above the margin, with their gradients and slips, as `rows_in_numbers` does, and reads the overlaps and the bearing of every pair.
 pub fn read(
     m: Mechanism,
     q: Pose,
@@ -139,7 +139,7 @@ pub fn read(
     ensures { λ _. ⌜ now (grad .exit) ≡ ifAccepted (rowsChecked m q (length (now (places .entry))) (length (now (values .entry))) (length (now (grad .entry))) (length (now (slip .entry)))) (sets (now (grad .entry)) 0 (gradsOf m q margin)) (now (grad .entry)) ⌝ }
     ensures { λ _. ⌜ now (slip .exit) ≡ ifAccepted (rowsChecked m q (length (now (places .entry))) (length (now (values .entry))) (length (now (grad .entry))) (length (now (slip .entry)))) (sets (now (slip .entry)) 0 (slipsOf m q margin)) (now (slip .entry)) ⌝ }
 {
-    let a = rows(m, q, margin, places, values, grad, slip);
+    let a = rows_in_numbers(m, q, margin, places, values, grad, slip);
     let c = a.checked;
     match c {
         Checked::Refused(p) => refused(p),

@@ -1,4 +1,4 @@
-// Prints how much room `rows` asks for, of sheet texts from standard input, each behind its length in six decimal digits and a newline: X,number,place where a text is refused (document 01's 1 to 11 and 13,
+// Prints how much room `rows_in_numbers` asks for, of sheet texts from standard input, each behind its length in six decimal digits and a newline: X,number,place where a text is refused (document 01's 1 to 11 and 13,
 // with 256 rows lent), else `accepted` and the fewest places, values, gradients and slips, each with plenty of the others, that are accepted, then `kept`, or `written` where a refused call wrote something or an accepted one something
 // past its last row. The files stdin and stdout beside this program were made by `oracle/readings store`: the numbers are the Rust's faces and discs.
 ghost use Prim.Native.Nat.{_≤_};
@@ -12,7 +12,7 @@ use mechanism::Mechanism;
 use mechanism::rows::Place;
 use mechanism::rows::Value;
 use shown_rows::RowsAnswer;
-use shown_rows::rows;
+use shown_rows::rows_in_numbers;
 
 // A number of at most six digits, with one more digit after it.
 fn tens(v: usize, b: u8) -> usize
@@ -131,7 +131,7 @@ fn rows_of(r: RowsAnswer) -> usize {
     0
 }
 
-// Calls `rows` with so much of the lent arrays.
+// Calls `rows_in_numbers` with so much of the lent arrays.
 fn called(
     m: Mechanism,
     q: Pose,
@@ -146,7 +146,7 @@ fn called(
     let b = least(room.values, values.len());
     let c = least(room.grads, grad.len());
     let d = least(room.slips, slip.len());
-    rows(
+    rows_in_numbers(
         m,
         q,
         margin,

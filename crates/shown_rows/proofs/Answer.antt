@@ -1,4 +1,4 @@
--- What `rows` answers and leaves in the lent arrays, refused and accepted. Assumes nothing.
+-- What `rows_in_numbers` answers and leaves in the lent arrays, refused and accepted. Assumes nothing.
 use Prim.Native.Nat.{ℕ, _*_, _≤_}
 use native.Mathlib.Omega.{arith}
 use native.Mathlib.Nat.{zero-add, zero-mul, mul-le-mul}
@@ -59,14 +59,17 @@ has-room-for coords k places values grad slip e =
       slip-room = subst (λ (j : ℕ). j * coords ≤ length slip) (sym z) (leb-true (k * coords) (length slip) (w .1));
     }
 
-module _ (m : Mechanism) (places : List (List ℕ)) (values : List (List Float)) (grad slip : List Float) where
+module _ (m : Mechanism) where
   -- what is tested with the bound that was computed
-  pub room-is : {bound : ℕ} {b : Bool} → bound ≡ mechanismBound m → ((leb bound (length places) && leb bound (length values)) && (leb (bound * m .bodies .coords) (length grad) && leb (bound * m .bodies .coords) (length slip))) ≡ b
-      → roomFor m (length places) (length values) (length grad) (length slip) ≡ b
-  room-is e t = ap (λ (k : ℕ). (leb k (length places) && leb k (length values)) && (leb (k * m .bodies .coords) (length grad) && leb (k * m .bodies .coords) (length slip))) (sym e) ∙ t
+  pub room-is : (places values grad slip : ℕ) {bound : ℕ} {b : Bool} → bound ≡ mechanismBound m
+      → ((leb bound places && leb bound values) && (leb (bound * m .bodies .coords) grad && leb (bound * m .bodies .coords) slip)) ≡ b
+      → roomFor m places values grad slip ≡ b
+  room-is places values grad slip e t =
+      ap (λ (k : ℕ). (leb k places && leb k values) && (leb (k * m .bodies .coords) grad && leb (k * m .bodies .coords) slip)) (sym e) ∙ t
 
-  pub has-room : roomFor m (length places) (length values) (length grad) (length slip) ≡ true → Room (m .bodies .coords) 0 (mechanismBound m) places values grad slip
-  has-room e = has-room-for (m .bodies .coords) (mechanismBound m) places values grad slip e
+  pub has-room : (places : List (List ℕ)) (values : List (List Float)) (grad slip : List Float)
+      → roomFor m (length places) (length values) (length grad) (length slip) ≡ true → Room (m .bodies .coords) 0 (mechanismBound m) places values grad slip
+  has-room places values grad slip e = has-room-for (m .bodies .coords) (mechanismBound m) places values grad slip e
 
 pub columns-small : (m : Mechanism) (bound : ℕ) → checkOf m ≡ Accepted → bound ≤ 12544 → bound * m .bodies .coords ≤ 200704
 columns-small m bound e h =

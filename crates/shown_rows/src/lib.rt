@@ -138,6 +138,32 @@ fn bound_of(m: Mechanism) -> usize
     sum
 }
 
+// The first refusal that applies to a call with so many rows, gradients and slips lent.
+pub fn rows_checked(
+    m: Mechanism,
+    q: Pose,
+    places: usize,
+    values: usize,
+    grad: usize,
+    slip: usize,
+) -> Checked
+    ensures { λ r. ⌜ r ≡ rowsChecked m q places values grad slip ⌝ }
+{
+    let bodies = m.bodies;
+    let c = call_checked(m, q.fits(bodies), true, true);
+    match c {
+        Checked::Refused(p) => Checked::Refused(p),
+        Checked::Accepted => {
+            let bound = bound_of(m);
+            let columns = bound * bodies.coords;
+            if ((bound <= places) & (bound <= values)) & ((columns <= grad) & (columns <= slip)) {
+                return Checked::Accepted;
+            }
+            Checked::Refused(Problem::TooFewRows)
+        }
+    }
+}
+
 // The answer of a call that is refused.
 pub fn refused(p: Problem) -> RowsAnswer
     ensures { λ r. ⌜ r ≡ answerIf (Refused p) 0 ⌝ }
@@ -149,7 +175,7 @@ pub fn refused(p: Problem) -> RowsAnswer
 }
 
 // Writes the rows of every pair whose gap is not above the margin, with their gradients and slips, one float a coordinate each; everything past the last row stays.
-pub fn rows(
+pub fn rows_in_numbers(
     m: Mechanism,
     q: Pose,
     margin: f64,
@@ -164,23 +190,22 @@ pub fn rows(
     ensures { λ _. ⌜ now (grad .exit) ≡ ifAccepted (rowsChecked m q (length (now (places .entry))) (length (now (values .entry))) (length (now (grad .entry))) (length (now (slip .entry)))) (sets (now (grad .entry)) 0 (gradsOf m q margin)) (now (grad .entry)) ⌝ }
     ensures { λ _. ⌜ now (slip .exit) ≡ ifAccepted (rowsChecked m q (length (now (places .entry))) (length (now (values .entry))) (length (now (grad .entry))) (length (now (slip .entry)))) (sets (now (slip .entry)) 0 (slipsOf m q margin)) (now (slip .entry)) ⌝ }
 {
-    let bodies = m.bodies;
-    let c = call_checked(m, q.fits(bodies), true, true);
+    let c = rows_checked(
+        m,
+        q,
+        places.len(),
+        values.len(),
+        grad.len(),
+        slip.len(),
+    );
     match c {
         Checked::Refused(p) => refused(p),
         Checked::Accepted => {
-            let bound = bound_of(m);
-            let columns = bound * bodies.coords;
-            if ((bound <= places.len()) & (bound <= values.len()))
-                & ((columns <= grad.len()) & (columns <= slip.len()))
-            {
-                let n = put_rows(places, values, grad, slip, m, q, margin);
-                return RowsAnswer {
-                    checked: Checked::Accepted,
-                    count: n,
-                };
+            let n = put_rows(places, values, grad, slip, m, q, margin);
+            RowsAnswer {
+                checked: Checked::Accepted,
+                count: n,
             }
-            refused(Problem::TooFewRows)
         }
     }
 }

@@ -3,8 +3,8 @@ use Rattle.reading.proofs.Answer.{read-refused, ready, read-accepted}
 use Rattle.reading.proofs.read.Statement.{statement}
 use Rattle.reading.proofs.read.Tie as tie
 
-rows-requires : tie.Need-rows-requires
-rows-requires c κs = search needs
+rows-in-numbers-requires : tie.Need-rows-in-numbers-requires
+rows-in-numbers-requires c κs = search needs
 
 enum-known-c : tie.Need-enum-known-c
 enum-known-c c = search needs
@@ -18,7 +18,7 @@ enum-told c = search needs
 read-pairs-requires : tie.Need-read-pairs-requires
 read-pairs-requires c κs =
     let s = c .before .before .before .before .before .before .before .before .before .before .before .before .before .before .before .before .before .args in
-    let e = c .before .before .before .before .before .before .before .before .before .before .rows .ensures in
+    let e = c .before .before .before .before .before .before .before .before .before .before .rows-in-numbers .ensures in
     ready (s .m) (s .q) (s .margin) (s .places .now) (s .values .now) (s .grad .now) (s .slip .now) (e .0) (c .before .before .enum-told .given .1) (e .1 .0) (e .1 .1 .0)
 
 same-length : tie.Need-same-length
@@ -36,7 +36,7 @@ same-length-4 c = search needs
 returns : tie.Need-returns
 returns c =
     let s = c .before .before .before .before .before .before .before .before .before .before .before .before .before .before .before .before .before .args in
-    let e = c .before .before .before .before .before .before .before .before .before .before .rows .ensures in
+    let e = c .before .before .before .before .before .before .before .before .before .before .rows-in-numbers .ensures in
     let r = read-refused (s .m) (s .q) (s .margin) (s .places .now) (s .values .now) (s .grad .now) (s .slip .now) in
     (r _ (e .0) (c .before .before .c .given .1) (c .refused .ensures), e .1)
 
@@ -55,7 +55,7 @@ same-length-8 c = search needs
 returns-2 : tie.Need-returns-2
 returns-2 c =
     let s = c .before .before .before .before .before .before .before .before .before .before .before .before .before .before .before .before .before .before .args in
-    let e = c .before .before .before .before .before .before .before .before .before .before .before .rows .ensures in
+    let e = c .before .before .before .before .before .before .before .before .before .before .before .rows-in-numbers .ensures in
     let told = c .before .before .before .enum-told .given .1 in (
       read-accepted (s .m) (s .q) (s .margin) (s .places .now) (s .values .now) (s .grad .now) (s .slip .now) (e .0) told (e .1 .0) (e .1 .1 .0) (c .read-pairs .ensures),
       e .1,
@@ -65,7 +65,7 @@ pub read-spec : {M : Type 1} → statement M
 read-spec =
     tie.close
     (tie.spec
-    rows-requires
+    rows-in-numbers-requires
     enum-known-c
     refused-requires
     enum-told

@@ -17,32 +17,32 @@ least-requires-3 c κs = search needs
 least-requires-4 : tie.Need-least-requires-4
 least-requires-4 c κs = search needs
 
-slice-relend-prefix-rows : tie.Need-slice-relend-prefix-rows
-slice-relend-prefix-rows c = search needs
+slice-relend-prefix-rows-in-numbers : tie.Need-slice-relend-prefix-rows-in-numbers
+slice-relend-prefix-rows-in-numbers c = search needs
 
-slice-aggregate-rows : tie.Need-slice-aggregate-rows
-slice-aggregate-rows c = let h = c .before .before .before .before .least .ensures in sym (length-take-le _ (c .before .before .before .before .before .before .before .args .places .now) (omega (arith, h)))
+slice-aggregate-rows-in-numbers : tie.Need-slice-aggregate-rows-in-numbers
+slice-aggregate-rows-in-numbers c = let h = c .before .before .before .before .least .ensures in sym (length-take-le _ (c .before .before .before .before .before .before .before .args .places .now) (omega (arith, h)))
 
-slice-relend-prefix-rows-2 : tie.Need-slice-relend-prefix-rows-2
-slice-relend-prefix-rows-2 c = search needs
+slice-relend-prefix-rows-in-numbers-2 : tie.Need-slice-relend-prefix-rows-in-numbers-2
+slice-relend-prefix-rows-in-numbers-2 c = search needs
 
-slice-aggregate-rows-2 : tie.Need-slice-aggregate-rows-2
-slice-aggregate-rows-2 c = let h = c .before .before .before .before .least2 .ensures in sym (length-take-le _ (c .before .before .before .before .before .before .before .before .args .values .now) (omega (arith, h)))
+slice-aggregate-rows-in-numbers-2 : tie.Need-slice-aggregate-rows-in-numbers-2
+slice-aggregate-rows-in-numbers-2 c = let h = c .before .before .before .before .least2 .ensures in sym (length-take-le _ (c .before .before .before .before .before .before .before .before .args .values .now) (omega (arith, h)))
 
-slice-relend-prefix-rows-3 : tie.Need-slice-relend-prefix-rows-3
-slice-relend-prefix-rows-3 c = search needs
+slice-relend-prefix-rows-in-numbers-3 : tie.Need-slice-relend-prefix-rows-in-numbers-3
+slice-relend-prefix-rows-in-numbers-3 c = search needs
 
-slice-aggregate-rows-3 : tie.Need-slice-aggregate-rows-3
-slice-aggregate-rows-3 c = let h = c .before .before .before .before .least3 .ensures in sym (length-take-le _ (c .before .before .before .before .before .before .before .before .before .args .grad .now) (omega (arith, h)))
+slice-aggregate-rows-in-numbers-3 : tie.Need-slice-aggregate-rows-in-numbers-3
+slice-aggregate-rows-in-numbers-3 c = let h = c .before .before .before .before .least3 .ensures in sym (length-take-le _ (c .before .before .before .before .before .before .before .before .before .args .grad .now) (omega (arith, h)))
 
-slice-relend-prefix-rows-4 : tie.Need-slice-relend-prefix-rows-4
-slice-relend-prefix-rows-4 c = search needs
+slice-relend-prefix-rows-in-numbers-4 : tie.Need-slice-relend-prefix-rows-in-numbers-4
+slice-relend-prefix-rows-in-numbers-4 c = search needs
 
-slice-aggregate-rows-4 : tie.Need-slice-aggregate-rows-4
-slice-aggregate-rows-4 c = let h = c .before .before .before .before .least4 .ensures in sym (length-take-le _ (c .before .before .before .before .before .before .before .before .before .before .args .slip .now) (omega (arith, h)))
+slice-aggregate-rows-in-numbers-4 : tie.Need-slice-aggregate-rows-in-numbers-4
+slice-aggregate-rows-in-numbers-4 c = let h = c .before .before .before .before .least4 .ensures in sym (length-take-le _ (c .before .before .before .before .before .before .before .before .before .before .args .slip .now) (omega (arith, h)))
 
-rows-requires : tie.Need-rows-requires
-rows-requires c κs = search needs
+rows-in-numbers-requires : tie.Need-rows-in-numbers-requires
+rows-in-numbers-requires c κs = search needs
 
 same-length : tie.Need-same-length
 same-length c = search needs
@@ -67,15 +67,15 @@ called-spec =
     least-requires-2
     least-requires-3
     least-requires-4
-    slice-relend-prefix-rows
-    slice-aggregate-rows
-    slice-relend-prefix-rows-2
-    slice-aggregate-rows-2
-    slice-relend-prefix-rows-3
-    slice-aggregate-rows-3
-    slice-relend-prefix-rows-4
-    slice-aggregate-rows-4
-    rows-requires
+    slice-relend-prefix-rows-in-numbers
+    slice-aggregate-rows-in-numbers
+    slice-relend-prefix-rows-in-numbers-2
+    slice-aggregate-rows-in-numbers-2
+    slice-relend-prefix-rows-in-numbers-3
+    slice-aggregate-rows-in-numbers-3
+    slice-relend-prefix-rows-in-numbers-4
+    slice-aggregate-rows-in-numbers-4
+    rows-in-numbers-requires
     same-length
     same-length-2
     same-length-3
