@@ -142,6 +142,34 @@ def outlines(n):
     return sheet(1, bodies, parts, pairs, 0.05, [(0.0285, 0.0, 1.0)])
 
 
+def nosed(x, y, length, r):
+    """A bar along x whose right end is a half circle of radius r: its underside, its nose, its top, its left end. (x, y) is the middle of the left end, the nose's centre a length from it."""
+    low, high = (x + length, y - r), (x + length, y + r)
+    return [line((x, y - r), low), 'A,' + floats(x + length, y, r, 0.0, -1.0, 0.0, 1.0), line(high, (x, y + r)), line((x, y + r), (x, y - r))]
+
+
+def chained():
+    """Five bars, each hinged on the one below it and the lowest on a slide, between a bed and a stop: pairs with a gap, and one that is a tenth of a millimetre deep."""
+    bodies = ['J,P,0,0,' + floats(0.0, 0.0, 1.0, 0.0)] + [f'J,R,{k},{k},' + floats(0.02, 0.0125) for k in range(1, 5)]
+    parts = [(k, 'S', SOLID, nosed(-0.01, 0.0, 0.09 + 0.002 * k, 0.005)) for k in range(1, 6)]
+    parts += [(0, 'S', SOLID, nosed(-0.02, -0.0102, 0.10, 0.005)), (0, 'S', SOLID, nosed(0.10, 0.056, 0.06, 0.004))]
+    facing = [(1, 0), (2, 1), (3, 2), (4, 3), (0, 5), (4, 6)]
+    pairs = [('F', [('A', a, 0, 4), ('B', b, 0, 4)]) for a, b in facing]
+    return sheet(5, bodies, parts, pairs, 0.01, [turn(q) for q in (0.003, -0.02, -0.0405, 0.004, 0.006)])
+
+
+def small_pairs():
+    """Sixteen pairs, the most there are, each of a bar on a hinge and a block below its nose. The fifteen hinges stand in a row; the last bar is on the first of them, above the others."""
+    bodies = [f'J,R,0,{k},' + floats(0.05 * k, 0.0) for k in range(15)]
+    parts, pairs = [], []
+    for k in range(16):
+        hinge, height = k % 15, 0.02 * (k // 15)
+        parts.append((hinge + 1, 'S', SOLID, nosed(0.0, height, 0.03, 0.002)))
+        parts.append((0, 'S', SOLID, rectangle(0.05 * hinge + 0.02, height - 0.0062, 0.02, 0.004)))
+        pairs.append(('F', [('A', 2 * k, 0, 2), ('B', 2 * k + 1, 1, 3)]))
+    return sheet(15, bodies, parts, pairs, 0.01, [turn(0.002 * k - 0.012) for k in range(15)])
+
+
 def sunk():
     """Two wheels sunk deep into one another, with a hole in each, eight segments a side: most corners read deep."""
     bodies = ['J,R,0,0,' + floats(0.0, 0.0)]

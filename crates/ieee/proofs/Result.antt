@@ -1,8 +1,8 @@
--- The pattern that `positive` makes stands for the root. Assumes nothing.
-use mathlib.Core.Path.{_≡_, refl, sym, ap, _∙_, subst}
+-- The pattern that `normal` and `subnormal` make stands for the root. Assumes nothing.
+use mathlib.Core.Path.{_≡_, refl, sym, ap, ap₂, _∙_, subst}
 use mathlib.Core.Bool.{Bool, false, not}
 use Prim.Native.Nat.{ℕ, zero, suc, _+_, _-_, _*_, _/_, _%_, _^_, _≤_, _<_}
-use native.Mathlib.Nat.{le-of-lt, lt-of-le-of-lt, mul-pos, mul-le-mul, mul-comm, mul-assoc, mul-left-comm, mul-right-comm}
+use native.Mathlib.Nat.{le-of-eq, le-of-lt, lt-of-le-of-lt, mul-pos, mul-one, mul-le-mul, mul-comm, mul-assoc, mul-left-comm, mul-right-comm}
 use native.Mathlib.Numerals.{add-one}
 use native.Mathlib.Omega.{arith}
 use lib.Dec.{T, lit<}
@@ -12,7 +12,7 @@ use lib.Ieee.Bits.{ofBits-fits, nanBits-above}
 use lib.Ieee.Exact.{units-val}
 use borrow.Author.Tests.{le-ltb}
 use Rattle.ieee.specs.Root.{rootOf, rooted}
-use Rattle.ieee.specs.Near.{Near, Moved}
+use Rattle.ieee.specs.Near.{Near, Range, Moved}
 use Rattle.ieee.proofs.Units.{Counts, same-double}
 use Rattle.ieee.proofs.Patterns.{expo, signif, counts, root-above}
 use Rattle.ieee.proofs.Steps.{full}
@@ -56,6 +56,50 @@ start-le b h =
     let s : signif b ≤ 9007199254740991 = omega arith in
     let t : 1 + expo b % 2 ≤ 2 = omega arith in
     mul-le-mul s t
+
+-- the significand and half the exponent of a number that is not subnormal, as `normal` has them
+abbrev pub normal-m : ℕ → ℕ
+normal-m b = ((b - 4503599627370496) % 9007199254740992 % 4503599627370496 + 4503599627370496) * (1 + (b - 4503599627370496) % 9007199254740992 / 4503599627370496)
+
+abbrev pub normal-j : ℕ → ℕ
+normal-j b = 511 + (b - 4503599627370496) / 9007199254740992
+
+m-is : (b : ℕ) → 2 ^ 52 ≤ b → signif b * (1 + expo b % 2) ≡ normal-m b
+m-is b h = ap₂ (λ (x y : ℕ). x * y) digits parity
+  where
+    digits : signif b ≡ (b - 4503599627370496) % 9007199254740992 % 4503599627370496 + 4503599627370496
+    digits = omega arith
+
+    parity : 1 + expo b % 2 ≡ 1 + (b - 4503599627370496) % 9007199254740992 / 4503599627370496
+    parity = omega arith
+
+j-is : (b : ℕ) → 2 ^ 52 ≤ b → 511 + expo b / 2 ≡ normal-j b
+j-is b h = omega arith
+
+pub normal-range : (b : ℕ) → 2 ^ 52 ≤ b → b < 0x7ff0_0000_0000_0000 → Range (normal-m b)
+normal-range b h k = record { from = low; to = subst (λ (x : ℕ). x ≤ 2 ^ 54 - 2) (m-is b h) (start-le b k) }
+  where
+    low : 2 ^ 52 ≤ normal-m b
+    low =
+        let s : 4503599627370496 ≤ (b - 4503599627370496) % 9007199254740992 % 4503599627370496 + 4503599627370496 = omega arith in
+        let t : 1 ≤ 1 + (b - 4503599627370496) % 9007199254740992 / 4503599627370496 = omega arith in
+        mul-le-mul s t
+
+pub normal-moved : (b : ℕ) → 2 ^ 52 ≤ b → b < 0x7ff0_0000_0000_0000 → Moved (signif b * (1 + expo b % 2)) (511 + expo b / 2) (normal-m b) (normal-j b)
+normal-moved b h k = record {
+  same = ap₂ (λ (x y : ℕ). x * (2 ^ y * 2 ^ y)) (sym (m-is b h)) (sym (j-is b h));
+  range = normal-range b h k;
+  pos = omega arith;
+  less = le-of-eq (sym (j-is b h));
+}
+
+-- and of a subnormal one
+pub subnormal-moved : (b m j : ℕ) → b < 2 ^ 52 → Moved b 511 m j → Moved (signif b * (1 + expo b % 2)) (511 + expo b / 2) m j
+subnormal-moved b m j h v =
+    let s : signif b ≡ b = omega arith in
+    let t : 1 + expo b % 2 ≡ 1 = omega arith in
+    let i : 511 + expo b / 2 ≡ 511 = omega arith in
+    subst (λ (x : ℕ). Moved (signif b * (1 + expo b % 2)) x m j) (sym i) (subst (λ (x : ℕ). Moved x 511 m j) (sym (ap₂ (λ (x y : ℕ). x * y) s t ∙ mul-one b)) v)
 
 -- ---- the result
 module _ (b m j q : ℕ) (b0 : 0 < b) (b1 : b < 0x7ff0_0000_0000_0000) (mv : Moved (signif b * (1 + expo b % 2)) (511 + expo b / 2) m j) (nr : Near m q) where
@@ -109,7 +153,8 @@ module _ (b m j q : ℕ) (b0 : 0 < b) (b1 : b < 0x7ff0_0000_0000_0000) (mv : Mov
 
   pub result-is : ofBits binary64 (j * 4503599627370496 + q) ≡ rootOf (ofBits binary64 b)
   result-is =
-      same-double (ofBits binary64 (j * 4503599627370496 + q)) (units binary64 false q j) (q * 2 ^ j) (ofBits-fits binary64 (j * 4503599627370496 + q)) units-fit result-counts (units-val binary64 false q j fine)
+      same-double (ofBits binary64 (j * 4503599627370496 + q)) (units binary64 false q j) (q * 2 ^ j)
+      (ofBits-fits binary64 (j * 4503599627370496 + q)) units-fit result-counts (units-val binary64 false q j fine)
       ∙ sym rounded
       ∙ sym (root-above (ofBits binary64 b) a (counts b b1) a-pos)
 

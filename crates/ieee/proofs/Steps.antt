@@ -1,10 +1,11 @@
--- The arithmetic of the loops: a bisection's bounds, and an m moved up by 4. Assumes nothing.
+-- The arithmetic of `significand` and of the loops: a guess moved by one, a bisection's bounds, an m moved up by 4. Assumes nothing.
 use mathlib.Core.Path.{_≡_, sym, ap, _∙_, subst}
-use mathlib.Core.Bool.{true, false}
-use Prim.Native.Nat.{ℕ, zero, suc, _+_, _-_, _*_, _^_, _≤_, _<_}
-use native.Mathlib.Nat.{lt-irrefl, le-trans, le-of-eq, lt-of-le-of-lt, mul-one, mul-le-mul, mul-assoc, two-pow-succ, lt-of-not-le, not-le-of-lt}
+use mathlib.Core.Bool.{Bool, true, false, not}
+use Prim.Native.Nat.{ℕ, zero, suc, _+_, _-_, _*_, _/_, _^_, _≤_, _<_}
+use native.Mathlib.Nat.{lt-irrefl, le-refl, add-zero, le-trans, le-of-eq, lt-of-le-of-lt, mul-one, mul-le-mul, mul-assoc, two-pow-succ, lt-of-not-le, not-le-of-lt}
+use native.Mathlib.Numerals.{add-one}
 use native.Mathlib.Omega.{arith}
-use lib.Dec.{leb, lit<}
+use lib.Dec.{T, leb, leb→le, nleb→lt, lit<}
 use lib.Pow.{pow-mono}
 use borrow.Author.Tests.{leb-true, leb-false}
 use Rattle.ieee.specs.Near.{Near, Range}
@@ -24,6 +25,95 @@ settled m p q e s lo hi = record {
   low = subst (λ (x : ℕ). x * x < m * 2 ^ 52 + x) (sym e) (omega (arith, sq-suc p));
   high = hi;
 }
+
+-- ---- what the excess d of N over the square of g, which is 2 ^ 58 more, tells of N's root
+over-top : (m q x y : ℕ) → Range m → y + q ≤ x → x < m * 2 ^ 52 + q → 81129638414606672688589750403072 ≤ y → ⊥
+over-top m q x y r a b c = omega (arith, r)
+
+pub below-top : (m q : ℕ) → Range m → q * q < m * 2 ^ 52 + q → q < 2 ^ 53
+below-top m q r h = lt-of-not-le (λ (g : 9007199254740992 ≤ q). big g)
+  where
+    big : 9007199254740992 ≤ q → ⊥
+    big g =
+        let a : 9007199254740992 * q ≤ q * q = mul-le-mul g (le-refl q) in
+        let b : 9007199254740991 * 9007199254740992 ≤ 9007199254740991 * q = mul-le-mul (le-refl 9007199254740991) g in
+        over-top m q (q * q) (9007199254740991 * q) r (omega arith) h b
+
+near-it : (m q : ℕ) → Range m → q * q < m * 2 ^ 52 + q → m * 2 ^ 52 ≤ q * q + q → Near m q
+near-it m q r lo hi = record { small = below-top m q r lo; low = lo; high = hi }
+
+is-next : (m g d : ℕ) → Range m → d + g * g ≡ m * 2 ^ 52 + 2 ^ 58 → d < 301741175033823232 → 288230376151711744 + g < d → Near m (g + 1)
+is-next m g d r e t h =
+    let k : 4503599627370495 ≤ g = native.Mathlib.Nat.le-of-suc-le-suc (lt-of-not-le (λ (x : suc g ≤ 4503599627370495). low x)) in
+    near-it m (g + 1) r (omega (arith, sq-suc g)) (omega (arith, sq-suc g))
+  where
+    low : suc g ≤ 4503599627370495 → ⊥
+    low x =
+        let a : g ≤ 4503599627370494 = omega arith in
+        let b : g * g ≤ 4503599627370494 * 4503599627370494 = mul-le-mul a a in
+        omega (arith, r)
+
+is-same : (m g d : ℕ) → Range m → d + g * g ≡ m * 2 ^ 52 + 2 ^ 58 → d ≤ 288230376151711744 + g → 288230376151711744 < d + g → Near m g
+is-same m g d r e h k = near-it m g r (omega arith) (omega arith)
+
+is-last : (m p d : ℕ) → Range m → d + (p + 1) * (p + 1) ≡ m * 2 ^ 52 + 2 ^ 58 → 274719577269600256 ≤ d → d + (p + 1) ≤ 288230376151711744 → Near m p
+is-last m p d r e t h =
+    let k : 4503599627370496 ≤ p = native.Mathlib.Nat.le-of-suc-le-suc (lt-of-not-le (λ (x : suc p ≤ 4503599627370496). low x)) in
+    near-it m p r (omega (arith, sq-suc p)) (omega (arith, sq-suc p))
+  where
+    low : suc p ≤ 4503599627370496 → ⊥
+    low x =
+        let a : p + 1 ≤ 4503599627370496 = omega arith in
+        let b : (p + 1) * (p + 1) ≤ 4503599627370496 * 4503599627370496 = mul-le-mul a a in
+        omega (arith, r)
+
+far : (m d : ℕ) → Range m → d ≡ m * 2 ^ 52 + 2 ^ 58 → d / 4503599627370496 < 67 → ⊥
+far m d r e h = omega (arith, r)
+
+few : (d : ℕ) → d < 301741175033823232 → d / 4503599627370496 < 67
+few d h = omega arith
+
+-- g, moved by one where d asks for it
+abbrev pub moved : ℕ → ℕ → ℕ
+moved g d = (d - 1 - g) / 288230376151711744 + (d - 1 + g) / 288230376151711744 + g - 1
+
+moved-up : (g d : ℕ) → g < 18014398509481984 → d < 301741175033823232 → 288230376151711744 + g < d → moved g d ≡ g + 1
+moved-up g d s t h = omega arith
+
+moved-not : (g d : ℕ) → g < 18014398509481984 → 274719577269600256 ≤ d → d ≤ 288230376151711744 + g → 288230376151711744 < d + g → moved g d ≡ g
+moved-not g d s t h k = omega arith
+
+moved-down : (p d : ℕ) → p < 18014398509481984 → 274719577269600256 ≤ d → d + (p + 1) ≤ 288230376151711744 → moved (p + 1) d ≡ p
+moved-down p d s t h = omega arith
+
+at-last : (m g d : ℕ) → Range m → g < 18014398509481984 → d + g * g ≡ m * 2 ^ 52 + 2 ^ 58 → 274719577269600256 ≤ d → d < 301741175033823232
+    → d + g ≤ 288230376151711744 → Near m (moved g d)
+at-last m zero d r s e t u h = absurd (far m d r (sym (add-zero d) ∙ e) (few d u))
+at-last m (suc p) d r s e t u h =
+    subst (λ (x : ℕ). Near m (moved x d)) (add-one p)
+    (subst (Near m) (sym (moved-down p d (omega arith) t (subst (λ (x : ℕ). d + x ≤ 288230376151711744) (sym (add-one p)) h)))
+    (is-last m p d r (subst (λ (x : ℕ). d + x * x ≡ m * 2 ^ 52 + 2 ^ 58) (sym (add-one p)) e) t (subst (λ (x : ℕ). d + x ≤ 288230376151711744) (sym (add-one p)) h)))
+
+more : (d : ℕ) → 61 ≤ d / 4503599627370496 → 274719577269600256 ≤ d
+more d h = omega arith
+
+less : (d : ℕ) → d / 4503599627370496 < 67 → d < 301741175033823232
+less d h = omega arith
+
+pub around : (m g d : ℕ) → Range m → g < 2 ^ 54 → d + g * g ≡ m * 2 ^ 52 + 2 ^ 58 → 61 ≤ d / 4503599627370496 → d / 4503599627370496 < 67 → Near m (moved g d)
+around m g d r s e a b = go (leb d (288230376151711744 + g)) (leb→le d (288230376151711744 + g)) (nleb→lt d (288230376151711744 + g))
+  where
+    below : d ≤ 288230376151711744 + g → (t : Bool) → (T t → d + g ≤ 288230376151711744) → (T (not t) → 288230376151711744 < d + g) → Near m (moved g d)
+    below h true p q = at-last m g d r s e (more d a) (less d b) (p tt)
+    below h false p q = subst (Near m) (sym (moved-not g d s (more d a) h (q tt))) (is-same m g d r e h (q tt))
+
+    go : (t : Bool) → (T t → d ≤ 288230376151711744 + g) → (T (not t) → 288230376151711744 + g < d) → Near m (moved g d)
+    go true p q = below (p tt) (leb (d + g) 288230376151711744) (leb→le (d + g) 288230376151711744) (nleb→lt (d + g) 288230376151711744)
+    go false p q = subst (Near m) (sym (moved-up g d s (less d b) (q tt))) (is-next m g d r e (less d b) (q tt))
+
+pub guess-pos : (m g d : ℕ) → Range m → d + g * g ≡ m * 2 ^ 52 + 2 ^ 58 → d / 4503599627370496 < 67 → 0 < g
+guess-pos m zero d r e h = absurd (far m d r (sym (add-zero d) ∙ e) h)
+guess-pos m (suc g) d r e h = native.Mathlib.Nat.zero-lt-suc g
 
 -- the bounds that a bisection starts from
 pub first-low : (m : ℕ) → Range m → 4503599627370495 * 4503599627370495 + 4503599627370495 < m * 2 ^ 52

@@ -1,5 +1,6 @@
 // The square root of IEEE 754-2019: `root`. A guess at the root's significand is made in floats, of which nothing is proved, and is then settled by
-// an exact comparison in whole numbers; where it is off by more than two, a bisection finds the significand.
+// its exact square in whole numbers; where it is off by more than one, a bisection finds the significand. Powers of two that stand below in digits:
+// 2^25 = 33554432, 2^26 = 67108864, 2^27 = 134217728, 2^52 = 4503599627370496, 2^53 = 9007199254740992, 2^54 = 18014398509481984, 2^58 = 288230376151711744.
 ghost use mathlib.Core.Path.{_≡_};
 ghost use Prim.Native.Nat.{_+_, _-_, _*_, _/_, _^_, _<_, _≤_};
 ghost use lib.Ieee.{binary64, ofBits};
@@ -7,27 +8,17 @@ ghost use lib.Dec.{leb};
 ghost use Rattle.ieee.specs.Near.{Near, Range, Moved};
 ghost use Rattle.ieee.specs.Root.{rootOf};
 
-// Whether m * 2^52 <= q * u, for factors of little more than 53 bits: each is cut at its lowest 26 bits.
-fn at_most(m: u64, q: u64, u: u64) -> bool
-    requires { ⌜ (q < 2 ^ 53) × (u < 2 ^ 54) ⌝ }
-    ensures { λ r. ⌜ r ≡ leb (m * 2 ^ 52) (q * u) ⌝ }
-{
-    let a = q / 67108864;
-    let b = q % 67108864;
-    let c = u / 67108864;
-    let d = u % 67108864;
-    let s = a * d + b * c;
-    let h = a * c + s / 67108864;
-    let l = s % 67108864 * 67108864 + b * d;
-    m <= h + l / 4503599627370496
-}
-
-// Whether the root of m * 2^52 is below q + 1/2, whose square is q * (q + 1) + 1/4.
+// Whether the root of m * 2^52 is below q + 1/2, whose square is q * q + q + 1/4. With q cut at its lowest 26 bits, q * q is h * 2^52 + l.
 fn over(q: u64, m: u64) -> bool
     requires { ⌜ q < 2 ^ 53 ⌝ }
     ensures { λ r. ⌜ r ≡ leb (m * 2 ^ 52) (q * q + q) ⌝ }
 {
-    at_most(m, q, q + 1)
+    let a = q / 67108864;
+    let b = q % 67108864;
+    let s = a * b;
+    let h = a * a + s / 33554432;
+    let l = s % 33554432 * 134217728 + b * b;
+    m <= h + (l + q) / 4503599627370496
 }
 
 // The whole number nearest to the root of m * 2^52, by bisection.
@@ -48,46 +39,64 @@ fn search(m: u64) -> u64
     hi
 }
 
-// A guess at the same number, from floats. Its contract says only that it has 53 bits.
-fn guess(m: u64) -> u64
-    ensures { λ r. ⌜ (2 ^ 52 ≤ r) × (r < 2 ^ 53) ⌝ }
+// An estimate of the root of x, whose pattern is b. Nothing is proved of it: a wrong one costs time alone. The pattern gives z, which is 1 / root(x) within 7 %, and
+// u = x * z * z, which is near 1. A polynomial of the fifth degree in u, whose factors are c and d, makes z * d * c half of 1 / root(x) within 3e-10; s is the root so
+// found, and one step of Newton's makes it right to a unit in the last place or so.
+fn estimate(x: f64, b: u64) -> f64
+    requires { ⌜ b < 0x7ff0_0000_0000_0000 ⌝ }
 {
-    let v = std::num::nearest_u64_to_f64(m) * 0.0000000000000002220446049250313;
-    let z0 = 1.5561860857957208
-        + v * (-0.7388615368813939 + v * (0.19468504235593118 - v * 0.019050326144581006));
-    let h = 0.5 * v;
-    let z1 = z0 * (1.5 - h * z0 * z0);
-    let z2 = z1 * (1.5 - h * z1 * z1);
-    let s = v * z2;
-    let t = s + 0.5 * z2 * (v - s * s);
-    if t >= 1.0 {
-        f64::to_bits(t) % 4503599627370496 + 4503599627370496
-    } else {
-        4503599627370496
-    }
+    let z = f64::from_bits(0x5fe4_0000_0000_0000 - b / 2);
+    let p = x * z;
+    let u = p * z;
+    let k = u - 0.20411717799212734;
+    let n = u - 1.287727396096471;
+    let c = (k * k + 0.6850982549066285) * (n * n + 0.9105284212493494);
+    let d = (1.8853784779663318 - u) * 0.43116345845602635;
+    let s = (p + p) * d * c;
+    s + z * d * c * (x - s * s)
 }
 
-// The whole number nearest to the root of m * 2^52.
-fn significand(m: u64) -> u64
-    requires { ⌜ Range m ⌝ }
+// A guess at the significand of the root of x, whose pattern is b; e is the root's pattern less its significand. Its contract says only that it has 54 bits.
+fn guess(x: f64, b: u64, e: u64) -> u64
+    requires { ⌜ b < 0x7ff0_0000_0000_0000 ⌝ }
+    ensures { λ r. ⌜ r < 2 ^ 54 ⌝ }
+{
+    let t = estimate(x, b);
+    if t >= 0.0 {
+        let u = f64::to_bits(t);
+        if u >= e {
+            let g = u - e;
+            if g < 18014398509481984 {
+                return g;
+            }
+        }
+    }
+    0
+}
+
+// The whole number nearest to the root of m * 2^52, from a guess g at it, whose square is h * 2^52 + l. The number d is 2^58 more than m * 2^52 - g * g. Where that
+// difference lies within 3 * 2^52 of zero, the root is nearest to g or to a neighbour of it: to g + 1 where the difference is above g, to g - 1 where it is at most -g.
+// The two quotients by 2^58 are 0 or 1 and say which, without a branch. From a guess that is further off, the root is searched for.
+fn significand(m: u64, g: u64) -> u64
+    requires { ⌜ Range m ⌝ ∗ ⌜ g < 2 ^ 54 ⌝ }
     ensures { λ r. ⌜ Near m r ⌝ }
 {
-    let g = guess(m);
-    if over(g, m) {
-        if over(g - 1, m) {
-            if over(g - 2, m) {
-                return search(m);
+    let a = g / 67108864;
+    let b = g % 67108864;
+    let s = a * b;
+    let h = a * a + s / 33554432;
+    let l = s % 33554432 * 134217728 + b * b;
+    if h <= m + 62 {
+        let k = m + 64 - h;
+        if k < 4096 {
+            let d = k * 4503599627370496 - l;
+            let i = d / 4503599627370496;
+            if i >= 61 {
+                if i < 67 {
+                    let f = d - 1;
+                    return (f - g) / 288230376151711744 + (f + g) / 288230376151711744 + g - 1;
+                }
             }
-            return g - 1;
-        }
-        return g;
-    }
-    if g < 9007199254740989 {
-        if over(g + 1, m) {
-            return g + 1;
-        }
-        if over(g + 2, m) {
-            return g + 2;
         }
     }
     search(m)
@@ -113,24 +122,43 @@ fn normalized(m: u64, j: u64) -> Scaled
     Scaled { m: n, j: k }
 }
 
-// How many binary places a pattern's significand is moved up: the exponent's field less one, and 0 for a subnormal number.
-fn exponent(b: u64) -> u64
-    ensures { λ r. ⌜ r ≡ b / 4503599627370496 - 1 ⌝ }
-{
-    let f = b / 4503599627370496;
-    if f == 0 { 0 } else { f - 1 }
-}
-
-// The root of the number above zero whose pattern is b.
-fn positive(b: u64) -> f64
-    requires { ⌜ (0 < b) × (b < 0x7ff0_0000_0000_0000) ⌝ }
+// The root of the number above zero, and not subnormal, whose pattern is b. The number itself is x, and serves for the guess alone. The number is m * 4^k for an m of
+// 53 or 54 bits, as the exponent's field is odd or even. The root's pattern is e and its significand q in one sum: the highest digit of q adds one to the exponent's field.
+fn normal(x: f64, b: u64) -> f64
+    requires { ⌜ (2 ^ 52 ≤ b) × (b < 0x7ff0_0000_0000_0000) ⌝ }
     ensures { λ r. ⌜ r ≡ rootOf (ofBits binary64 b) ⌝ }
 {
-    let k = exponent(b);
-    let s = b - k * 4503599627370496;
-    let e = normalized(s * (1 + k % 2), 511 + k / 2);
-    let q = significand(e.m);
-    f64::from_bits(e.j * 4503599627370496 + q)
+    let c = b - 4503599627370496;
+    let w = c % 9007199254740992;
+    let m = (w % 4503599627370496 + 4503599627370496) * (1 + w / 4503599627370496);
+    let e = (511 + c / 9007199254740992) * 4503599627370496;
+    let q = significand(m, guess(x, b, e));
+    f64::from_bits(e + q)
+}
+
+// The pattern of m / 2^52, which lies from 1 to 4, less that of 1; with m's last digit dropped where there is no room for it.
+fn digits(m: u64) -> u64
+    requires { ⌜ Range m ⌝ }
+    ensures { λ r. ⌜ r < 2 ^ 53 ⌝ }
+{
+    if m < 9007199254740992 {
+        m - 4503599627370496
+    } else {
+        m / 2
+    }
+}
+
+// The root of the subnormal number whose pattern is b. The guess is that of the root of n.m / 2^52, which lies from 1 to 2: its pattern is 1022 * 2^52, the number
+// below, and its significand.
+fn subnormal(b: u64) -> f64
+    requires { ⌜ (0 < b) × (b < 2 ^ 52) ⌝ }
+    ensures { λ r. ⌜ r ≡ rootOf (ofBits binary64 b) ⌝ }
+{
+    let n = normalized(b, 511);
+    let v = 0x3ff0_0000_0000_0000 + digits(n.m);
+    let g = guess(f64::from_bits(v), v, 4602678819172646912);
+    let q = significand(n.m, g);
+    f64::from_bits(n.j * 4503599627370496 + q)
 }
 
 // The square root of x, rounded once to the nearest double.
@@ -141,17 +169,20 @@ pub fn root(x: f64) -> f64
         return x;
     }
     let b = f64::to_bits(x);
+    if b >= 4503599627370496 {
+        if b < 0x7ff0_0000_0000_0000 {
+            return normal(x, b);
+        }
+        if b == 0x7ff0_0000_0000_0000 {
+            return x;
+        }
+        if b == 0x8000_0000_0000_0000 {
+            return x;
+        }
+        return 0.0 / 0.0;
+    }
     if b == 0 {
         return x;
     }
-    if b < 0x7ff0_0000_0000_0000 {
-        return positive(b);
-    }
-    if b == 0x7ff0_0000_0000_0000 {
-        return x;
-    }
-    if b == 0x8000_0000_0000_0000 {
-        return x;
-    }
-    0.0 / 0.0
+    subnormal(b)
 }

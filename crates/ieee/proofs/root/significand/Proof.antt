@@ -1,107 +1,103 @@
-use Prim.Native.Nat.{_+_, _-_}
-use borrow.Author.Needs.{needs}
 use native.Mathlib.Omega.{arith}
-use Rattle.ieee.proofs.Steps.{is-over, not-over, settled}
+use Rattle.ieee.proofs.Halves.{Square, square, excess, lower-fits, excess-is}
+use Rattle.ieee.proofs.Steps.{around, guess-pos}
+use borrow.Author.Needs.{needs}
 use Rattle.ieee.proofs.root.significand.Statement.{statement}
 use Rattle.ieee.proofs.root.significand.Tie as tie
 
-guess-requires : tie.Need-guess-requires
-guess-requires c κs = search needs
+parts : (c : tie.Start) → Square (c .args .g)
+parts c = square (c .args .g) (c .pre .1)
 
-over-requires : tie.Need-over-requires
-over-requires c κs = search needs
+mul-s : tie.Need-mul-s
+mul-s c = omega (arith, parts c)
 
-sub-over : tie.Need-sub-over
-sub-over c = search needs
+mul-h : tie.Need-mul-h
+mul-h c = omega (arith, parts c)
 
-over-requires-2 : tie.Need-over-requires-2
-over-requires-2 c κs = search needs
+add-h : tie.Need-add-h
+add-h c = omega (arith, parts c)
 
-sub-over-2 : tie.Need-sub-over-2
-sub-over-2 c = search needs
+mul-l : tie.Need-mul-l
+mul-l c = search needs
 
-over-requires-3 : tie.Need-over-requires-3
-over-requires-3 c κs = search needs
+mul-l-2 : tie.Need-mul-l-2
+mul-l-2 c = omega (arith, parts c)
 
-search-requires : tie.Need-search-requires
-search-requires c κs = search needs
+add-l : tie.Need-add-l
+add-l c = omega (arith, parts c)
 
-returns : tie.Need-returns
-returns c = search needs
+add-if1 : tie.Need-add-if1
+add-if1 c = search needs
+
+add-k : tie.Need-add-k
+add-k c = search needs
+
+sub-k : tie.Need-sub-k
+sub-k c = search needs
+
+mul-d : tie.Need-mul-d
+mul-d c = search needs
+
+sub-d : tie.Need-sub-d
+sub-d c = let s = c .before .before in lower-fits (s .args .m) (s .args .g) (s .pre .1) (c .before .if1 .taken)
+
+sub-f : tie.Need-sub-f
+sub-f c = search needs
 
 sub-result : tie.Need-sub-result
 sub-result c = search needs
 
-returns-2 : tie.Need-returns-2
-returns-2 c =
-    let g = c .before .before .before .before .before .before .guess .result in
-    let m = c .before .before .before .before .before .before .before .args .m in
-    settled m (g - 2) (g - 1) (omega arith) (omega arith) (not-over m (g - 2) (c .before .over3 .ensures) (c .if3 .left)) (is-over m (g - 1) (c .before .before .before .over2 .ensures) (c .before .before .if2 .taken))
-
-returns-3 : tie.Need-returns-3
-returns-3 c =
-    let g = c .before .before .before .before .guess .result in
-    let m = c .before .before .before .before .before .args .m in
-    settled m (g - 1) g (omega arith) (omega arith) (not-over m (g - 1) (c .before .over2 .ensures) (c .if2 .left)) (is-over m g (c .before .before .before .over .ensures) (c .before .before .if1 .taken))
-
-add-over : tie.Need-add-over
-add-over c = search needs
-
-over-requires-4 : tie.Need-over-requires-4
-over-requires-4 c κs = search needs
-
 add-result : tie.Need-add-result
 add-result c = search needs
-
-returns-4 : tie.Need-returns-4
-returns-4 c =
-    let g = c .before .before .before .before .before .guess .result in
-    let m = c .before .before .before .before .before .before .args .m in
-    settled m g (g + 1) (omega arith) (omega arith) (not-over m g (c .before .before .before .before .over .ensures) (c .before .before .before .if1 .left)) (is-over m (g + 1) (c .before .over4 .ensures) (c .if5 .taken))
-
-add-over-2 : tie.Need-add-over-2
-add-over-2 c = search needs
-
-over-requires-5 : tie.Need-over-requires-5
-over-requires-5 c κs = search needs
 
 add-result-2 : tie.Need-add-result-2
 add-result-2 c = search needs
 
-returns-5 : tie.Need-returns-5
-returns-5 c =
-    let g = c .before .before .before .before .before .before .before .guess .result in
-    let m = c .before .before .before .before .before .before .before .before .args .m in
-    settled m (g + 1) (g + 2) (omega arith) (omega arith) (not-over m (g + 1) (c .before .before .before .over4 .ensures) (c .before .before .if5 .left)) (is-over m (g + 2) (c .before .over5 .ensures) (c .if6 .taken))
+add-result-3 : tie.Need-add-result-3
+add-result-3 c = search needs
 
-search-requires-2 : tie.Need-search-requires-2
-search-requires-2 c κs = search needs
+sub-result-2 : tie.Need-sub-result-2
+sub-result-2 c =
+    let s = c .before .before .before .before in
+    let m = s .args .m in
+    let g = s .args .g in
+    let p = guess-pos m g (excess m g) (s .pre .0) (excess-is m g (s .pre .1) (c .before .before .before .if1 .taken)) (c .if4 .taken) in
+    omega arith
 
-returns-6 : tie.Need-returns-6
-returns-6 c = search needs
+returns : tie.Need-returns
+returns c =
+    let s = c .before .before .before .before in
+    let m = s .args .m in
+    let g = s .args .g in
+    around m g (excess m g) (s .pre .0) (s .pre .1) (excess-is m g (s .pre .1) (c .before .before .before .if1 .taken)) (c .before .if3 .taken) (c .if4 .taken)
+
+search-requires : tie.Need-search-requires
+search-requires c κs = search needs
+
+returns-2 : tie.Need-returns-2
+returns-2 c = search needs
 
 pub significand-spec : {M : Type 1} → statement M
 significand-spec =
     tie.close
     (tie.spec
-    guess-requires
-    over-requires
-    sub-over
-    over-requires-2
-    sub-over-2
-    over-requires-3
-    search-requires
-    returns
+    mul-s
+    mul-h
+    add-h
+    mul-l
+    mul-l-2
+    add-l
+    add-if1
+    add-k
+    sub-k
+    mul-d
+    sub-d
+    sub-f
     sub-result
-    returns-2
-    returns-3
-    add-over
-    over-requires-4
     add-result
-    returns-4
-    add-over-2
-    over-requires-5
     add-result-2
-    returns-5
-    search-requires-2
-    returns-6)
+    add-result-3
+    sub-result-2
+    returns
+    search-requires
+    returns-2)
