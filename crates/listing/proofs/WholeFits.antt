@@ -1,10 +1,10 @@
 -- No listing is longer than the array that is lent for it. Assumes nothing.
 use Prim.Native.Nat.{ℕ, _≤_}
 use native.Mathlib.Omega.{arith}
-use mathlib.Core.Path.{_≡_, refl, ap, _∙_}
+use mathlib.Core.Path.{_≡_, refl, sym, ap, _∙_}
 use mathlib.Core.List.{List}
-use lib.ListN.{length}
-use lib.Seq.{sets, length-sets}
+use lib.ListN.{length, take}
+use lib.Seq.{sets, length-sets, length-take-le}
 use lib.Ieee.{Float}
 use Rattle.bodies.specs.Check.{numberOf, placeOf}
 use Rattle.bodies.specs.declared.Checked.{Checked}
@@ -41,8 +41,12 @@ pub listing-fits : (text : List ℕ) → length (listingOf text) ≤ longest
 unfolding listingOf
 listing-fits text = sheet-fits (sheetOf text) (sheetOf text .checked)
 
--- so it fits where it is written from the front of such an array
-pub fits-inside : (text out₀ : List ℕ) {out : List ℕ} {r : ℕ} → longest ≤ length out₀ → (r ≡ length (listingOf text)) × (out ≡ sets out₀ 0 (listingOf text)) → r ≤ length out
-fits-inside text out₀ {out} l w =
-    let n : length out ≡ length out₀ = ap length (w .1) ∙ length-sets out₀ 0 (listingOf text) in
-    omega (arith, w .0, n, l, listing-fits text)
+-- what a caller needs to take the listing out of the array
+module _ (text out₀ : List ℕ) {out : List ℕ} {r : ℕ} (l : length out₀ ≡ longest) (w : (r ≡ length (listingOf text)) × (out ≡ sets out₀ 0 (listingOf text))) where
+  pub taken-inside : r ≤ length out
+  taken-inside =
+      let n : length out ≡ length out₀ = ap length (w .1) ∙ length-sets out₀ 0 (listingOf text) in
+      omega (arith, w .0, n, l, listing-fits text)
+
+  pub taken-long : r ≡ length (take r out)
+  taken-long = sym (length-take-le r out taken-inside)

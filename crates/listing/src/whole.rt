@@ -4,6 +4,7 @@ ghost use mathlib.Core.Path.{_≡_};
 ghost use lib.ListN.{length};
 ghost use lib.Seq.{sets};
 ghost use Rattle.reading_lines.specs.Lines.{Wrote};
+ghost use Rattle.reading_lines.specs.Readings.{longest};
 ghost use Rattle.listing.specs.Listing.{posedLines, listingOf};
 use bodies::Checked;
 use bodies::Problem;
@@ -30,10 +31,10 @@ fn posed_lines(out: &mut Listed, m: Mechanism, e: Entries, margin: f64) -> usize
     }
 }
 
-// Writes the listing of a sheet text from the front, and answers how long it is; everything behind it stays. No listing is longer than the array.
+// Writes the listing of a sheet text from the front, and answers how long it is, at most `longest`, the length of the array; everything behind it stays.
 pub fn listing(text: &[u8], out: &mut Listed) -> usize
     ensures { λ r. ⌜ (r ≡ length (listingOf (now (text .entry)))) × (now (out .exit) ≡ sets (now (out .entry)) 0 (listingOf (now (text .entry)))) ⌝ }
-    ensures fits { λ r. ⌜ r ≤ length (now (out .exit)) ⌝ }
+    ensures fits { λ r. ⌜ r ≤ longest ⌝ }
 {
     let s = sheet::read(text);
     let c = s.checked;

@@ -7,7 +7,7 @@ ghost use Rattle.reading_lines.specs.Readings.{longest};
 ghost use Rattle.listing.specs.Listing.{listingOf};
 use reading_lines::whole::Listed;
 
-// How many bytes `out` has. No listing has more.
+// The size of `out` in bytes. No listing is longer.
 #[no_mangle]
 pub extern "C" fn sewqirun_longest() -> usize
     ensures { λ r. ⌜ r ≡ longest ⌝ }
@@ -15,11 +15,11 @@ pub extern "C" fn sewqirun_longest() -> usize
     192352
 }
 
-// Writes the listing of a sheet text from the front of `out`, and answers how long it is; everything behind it stays. No listing is longer than `out`.
+// Writes the listing of a sheet text from the front of `out`, and answers how long it is, at most the size of `out`; everything behind it stays.
 #[no_mangle]
 pub extern "C" fn sewqirun_listing(text: &[u8], out: &mut Listed) -> usize
     ensures { λ r. ⌜ (r ≡ length (listingOf (now (text .entry)))) × (now (out .exit) ≡ sets (now (out .entry)) 0 (listingOf (now (text .entry)))) ⌝ }
-    ensures fits { λ r. ⌜ r ≤ length (now (out .exit)) ⌝ }
+    ensures fits { λ r. ⌜ r ≤ longest ⌝ }
 {
     listing::whole::listing(text, out)
 }

@@ -1,5 +1,6 @@
-use mathlib.Core.Path.{sym}
-use lib.Seq.{length-take-le}
+use Prim.Native.Nat.{ℕ}
+use lib.ListN.{replicate, length-replicate}
+use Rattle.listing.proofs.WholeFits.{taken-inside, taken-long}
 use borrow.Author.Needs.{needs}
 use Rattle.readings.proofs.main.Statement.{statement}
 use Rattle.readings.proofs.main.Tie as tie
@@ -26,11 +27,11 @@ listing-requires c κs = search needs
 
 -- src/main.rt:7:22
 array-share-prefix-out : tie.Need-array-share-prefix-out
-array-share-prefix-out c = c .listing .ensures .1
+array-share-prefix-out c = taken-inside _ (replicate 192352 0) (length-replicate {A = ℕ} 192352 0) (c .listing .ensures .0)
 
 -- src/main.rt:7:22
 slice-aggregate-write-all : tie.Need-slice-aggregate-write-all
-slice-aggregate-write-all c = sym (length-take-le _ _ (c .before .listing .ensures .1))
+slice-aggregate-write-all c = taken-long _ (replicate 192352 0) (length-replicate {A = ℕ} 192352 0) (c .before .listing .ensures .0)
 
 -- src/main.rt:7:5
 write-all-requires : tie.Need-write-all-requires

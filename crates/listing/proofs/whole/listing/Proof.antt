@@ -1,5 +1,5 @@
 use native.Mathlib.Omega.{arith}
-use Rattle.listing.proofs.WholeFits.{fits-inside}
+use Rattle.listing.proofs.WholeFits.{listing-fits}
 use Rattle.listing.proofs.WholeLaws.{sheet-refused, sheet-accepted, listed}
 use borrow.Author.Needs.{needs}
 use Rattle.listing.proofs.whole.listing.Statement.{statement}
@@ -23,18 +23,16 @@ posed-lines-requires c κs = search needs
 returns : tie.Need-returns
 returns c =
     let s = c .before .before .before .before .before in
-    let k = s .before .before in
-    let a = k .args in
+    let a = s .before .before .args in
     let w = listed (sheet-refused (a .text .now) (s .read .ensures) _ (c .before .before .before .c .given .1)) (c .refused .ensures) in
-    (w, fits-inside (a .text .now) (a .out .now) (omega (arith, k .good .1 .0)) w)
+    (w, omega (arith, w .0, listing-fits (a .text .now)))
 
 returns-2 : tie.Need-returns-2
 returns-2 c =
     let s = c .before .before .before .before .before .before in
-    let k = s .before .before in
-    let a = k .args in
+    let a = s .before .before .args in
     let w = listed (sheet-accepted (a .text .now) (s .read .ensures) (c .before .before .before .before .enum-told .given .1)) (c .posed-lines .ensures) in
-    (w, fits-inside (a .text .now) (a .out .now) (omega (arith, k .good .1 .0)) w)
+    (w, omega (arith, w .0, listing-fits (a .text .now)))
 
 pub listing-spec : {M : Type 1} → statement M
 listing-spec =
