@@ -6,7 +6,7 @@ ghost use Prim.Native.Nat.{_+_, _-_, _*_, _/_, _^_, _<_, _≤_};
 ghost use lib.Ieee.{binary64, ofBits};
 ghost use lib.Dec.{leb};
 ghost use Rattle.ieee.specs.Near.{Near, Range, Moved};
-ghost use Rattle.ieee.specs.Root.{rootOf};
+ghost use Rattle.ieee.specs.Root.{rootOf, IsRoot};
 
 // Whether the root of m * 2^52 is below q + 1/2, whose square is q * q + q + 1/4. With q cut at its lowest 26 bits, q * q is h * 2^52 + l.
 fn over(q: u64, m: u64) -> bool
@@ -161,9 +161,10 @@ fn subnormal(b: u64) -> f64
     f64::from_bits(n.j * 4503599627370496 + q)
 }
 
-// The square root of x, rounded once to the nearest double.
+// The square root of x, rounded once to the nearest double. `IsRoot` is what IEEE 754 says of it; `rootOf` is the one double of which that holds.
 pub fn root(x: f64) -> f64
     ensures { λ r. ⌜ r ≡ rootOf x ⌝ }
+    ensures is_root { λ r. ⌜ IsRoot x r ⌝ }
 {
     if x != x {
         return x;

@@ -32,7 +32,7 @@ unfolding isFlat
 returns c =
     simp (
       c .is-level .ensures,
-      c .before .root .ensures,
+      c .before .root .ensures .0,
       c .before .before .dot .ensures,
       c .before .before .before .is-spanned2 .ensures,
       c .before .before .before .before .is-spanned .ensures,

@@ -32,7 +32,7 @@ root-requires c κs = search needs
 returns : tie.Need-returns
 returns c =
     simp (
-      c .root .ensures,
+      c .root .ensures .0,
       c .before .dot2 .ensures,
       c .before .before .dot .ensures,
       c .before .before .before .sub2 .ensures,

@@ -18,7 +18,7 @@ root-requires c κs = search needs
 returns : tie.Need-returns
 returns c =
     let s = c .before .before .before .args in
-    c .root .ensures ∙ ap rootOf (serves-nan _ _ (subst (λ (d : Float). Serves d (c .before .square-depth .result) (squareDepth (materialOf (s .points .now) (s .starts .now) (s .solids) (s .all)) (s .p))) nothing (c .before .square-depth .ensures))) ∙ square-root (materialOf (s .points .now) (s .starts .now) (s .solids) (s .all)) (s .p)
+    c .root .ensures .0 ∙ ap rootOf (serves-nan _ _ (subst (λ (d : Float). Serves d (c .before .square-depth .result) (squareDepth (materialOf (s .points .now) (s .starts .now) (s .solids) (s .all)) (s .p))) nothing (c .before .square-depth .ensures))) ∙ square-root (materialOf (s .points .now) (s .starts .now) (s .solids) (s .all)) (s .p)
 
 pub depth-spec : {M : Type 1} → statement M
 depth-spec = tie.close (tie.spec square-depth-requires root-requires returns)

@@ -98,7 +98,7 @@ returns c =
     let l = c .before .before .loop in
     let s = c .before .before .before .before .before .args in
     let m = materialOf (s .points .now) (s .starts .now) (s .n .solids) (s .n .all) in
-    c .root .ensures ∙ sym (sunk-end m (partSamples (s .t5) (outlinesIn (s .segs .now)) (s .q) (mouthsIn (s .mouths .now))) (ownerAt (s .t8)) (s .t5 .count) (l .d) (l .i) (c .before .loop-test .left)) ∙ l .inv .2
+    c .root .ensures .0 ∙ sym (sunk-end m (partSamples (s .t5) (outlinesIn (s .segs .now)) (s .q) (mouthsIn (s .mouths .now))) (ownerAt (s .t8)) (s .t5 .count) (l .d) (l .i) (c .before .loop-test .left)) ∙ l .inv .2
 
 pub sunk-in-spec : {M : Type 1} → statement M
 sunk-in-spec =

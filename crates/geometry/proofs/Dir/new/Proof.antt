@@ -12,13 +12,13 @@ is-finite-requires c κs = search needs
 returns : tie.Need-returns
 unfolding dirOf
 returns c =
-    let t1 = simp (c .before .is-finite .ensures, c .before .before .root .ensures) at (c .if1 .taken) in
-    simp (t1, c .before .before .root .ensures)
+    let t1 = simp (c .before .is-finite .ensures, c .before .before .root .ensures .0) at (c .if1 .taken) in
+    simp (t1, c .before .before .root .ensures .0)
 
 returns-2 : tie.Need-returns-2
 unfolding dirOf
 returns-2 c =
-    let t1 = simp (c .before .is-finite .ensures, c .before .before .root .ensures) at (c .if1 .left) in
+    let t1 = simp (c .before .is-finite .ensures, c .before .before .root .ensures .0) at (c .if1 .left) in
     simp (t1)
 
 pub new-spec : {M : Type 1} → statement M

@@ -45,7 +45,7 @@ returns-2 c =
     let t1 = simp (c .before .before .before .before .before .before .before .before .before .before .before .before .before .before .before .before .before .before .before .new .ensures, c .before .before .before .before .before .before .before .before .before .before .before .before .before .before .before .before .before .before .before .before .sub .ensures) at (c .before .before .before .before .before .before .before .before .before .before .before .before .before .before .before .before .before .found .given .1) in
     let t2 = simp (c .before .before .before .before .before .before .before .before .before .before .before .before .before .before .in-sector .ensures, c .before .before .before .before .before .before .before .before .before .before .before .before .before .before .before .turned-round .ensures, c .before .before .before .before .before .before .before .before .before .before .before .before .before .before .before .before .before .before .before .new .ensures, c .before .before .before .before .before .before .before .before .before .before .before .before .before .before .before .before .before .before .before .before .sub .ensures) at (c .before .before .before .before .before .before .before .before .before .before .before .before .before .if1 .taken) in
     let t3 = simp (c .before .before .before .before .before .before .before .before .before .before .before .in-sector2 .ensures, c .before .before .before .before .before .before .before .before .before .before .before .before .vector .ensures, c .before .before .before .before .before .before .before .before .before .before .before .before .before .before .in-sector .ensures, c .before .before .before .before .before .before .before .before .before .before .before .before .before .before .before .turned-round .ensures, c .before .before .before .before .before .before .before .before .before .before .before .before .before .before .before .before .before .before .before .new .ensures, c .before .before .before .before .before .before .before .before .before .before .before .before .before .before .before .before .before .before .before .before .sub .ensures) at (c .before .before .before .before .before .before .before .before .before .before .if2 .taken) in
-    simp (t1, t2, t3, c .before .before .before .before .before .before .before .root .ensures, c .before .before .before .before .before .before .before .before .dot .ensures, c .before .before .before .before .before .before .before .before .before .before .before .in-sector2 .ensures, c .before .before .before .before .before .before .before .before .before .before .before .before .vector .ensures, c .before .before .before .before .before .before .before .before .before .before .before .before .before .before .in-sector .ensures, c .before .before .before .before .before .before .before .before .before .before .before .before .before .before .before .turned-round .ensures, c .before .before .before .before .before .before .before .before .before .before .before .before .before .before .before .before .before .before .before .new .ensures, c .before .before .before .before .before .before .before .before .before .before .before .before .before .before .before .before .before .before .before .before .sub .ensures)
+    simp (t1, t2, t3, c .before .before .before .before .before .before .before .root .ensures .0, c .before .before .before .before .before .before .before .before .dot .ensures, c .before .before .before .before .before .before .before .before .before .before .before .in-sector2 .ensures, c .before .before .before .before .before .before .before .before .before .before .before .before .vector .ensures, c .before .before .before .before .before .before .before .before .before .before .before .before .before .before .in-sector .ensures, c .before .before .before .before .before .before .before .before .before .before .before .before .before .before .before .turned-round .ensures, c .before .before .before .before .before .before .before .before .before .before .before .before .before .before .before .before .before .before .before .new .ensures, c .before .before .before .before .before .before .before .before .before .before .before .before .before .before .before .before .before .before .before .before .sub .ensures)
 
 returns-3 : tie.Need-returns-3
 unfolding discOnDisc

@@ -79,7 +79,7 @@ returns c =
     let l = c .before .before .loop in
     let s = c .before .before .before .before .before .before .args in
     let n = c .before .before .before .part-count .ensures .0 in
-    c .root .ensures ∙ sym (sunk-end (materialOf (s .points .now) (s .starts .now) (s .n .solids) (s .n .all)) (samplesIn (s .sampled .now) (s .parts .now) (s .q)) (chosenAs (s .t7) 1) (partsIn (s .parts .now)) (l .d) (l .i) (omega (arith, n))) ∙ l .inv .1
+    c .root .ensures .0 ∙ sym (sunk-end (materialOf (s .points .now) (s .starts .now) (s .n .solids) (s .n .all)) (samplesIn (s .sampled .now) (s .parts .now) (s .q)) (chosenAs (s .t7) 1) (partsIn (s .parts .now)) (l .d) (l .i) (omega (arith, n))) ∙ l .inv .1
 
 pub sunk-among-spec : {M : Type 1} → statement M
 sunk-among-spec =
