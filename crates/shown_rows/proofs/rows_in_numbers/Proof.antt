@@ -2,7 +2,6 @@ use mathlib.Core.Path.{sym, _∙_}
 use mathlib.Core.Bool.{true}
 use Rattle.bodies.specs.Pose.{poseFits}
 use Rattle.mechanism.proofs.Checks.{call-accepted}
-use Rattle.shown_rows.specs.Rows.{roomFor}
 use Rattle.shown_rows.proofs.Answer.{has-room, answers-refused, answers-rows}
 use borrow.Author.Needs.{needs}
 use Rattle.shown_rows.proofs.rows_in_numbers.Statement.{statement}
