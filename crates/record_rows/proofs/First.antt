@@ -26,7 +26,6 @@ use Rattle.mechanism.proofs.Checks.{call-accepted}
 use Rattle.sides.specs.Contacts.{pairBound, mechanismBound}
 use Rattle.pair_rows.specs.PairRows.{Room}
 use Rattle.shown_rows.specs.Rows.{rowsOfPair, gradsOfPair, slipsOfPair, rowsOf, gradsOf, slipsOf, roomFor, answerIf, ifAccepted}
-use Rattle.shown_rows.specs.declared.RowsAnswer.{RowsAnswer}
 use Rattle.shown_rows.proofs.Bound.{bounds-part}
 use Rattle.shown_rows.proofs.OfPair.{rows-few, grads-long, slips-long}
 use Rattle.shown_rows.proofs.Total.{flat-few}

@@ -2,15 +2,13 @@
 use Prim.Native.Nat.{ℕ, _+_, _*_, _-_, _<_, _≤_}
 use native.Mathlib.Omega.{arith}
 use native.Mathlib.Nat.{zero-add, zero-mul, add-mul}
-use mathlib.Core.Path.{_≡_, refl, sym, ap, ap₂, subst, _∙_}
+use mathlib.Core.Path.{_≡_, refl, sym, ap, ap₂, _∙_}
 use mathlib.Core.List.{List, [], _++_, map, append-nil}
 use lib.Ieee.{Float}
 use lib.ListN.{length, getD, take, drop, length-map, length-drop, drop-of-length-le}
 use lib.Seq.{sets, take-all, take-length, length-sets}
 use Rattle.laws.proofs.Lists.{list-map, list-get, list-as}
-use Rattle.bodies.specs.declared.Checked.the-variants.{Accepted}
 use Rattle.bodies.specs.declared.pose.Pose.{Pose}
-use Rattle.mechanism.specs.Check.{checkOf}
 use Rattle.mechanism.specs.Description.{pairAt}
 use Rattle.mechanism.specs.Piece.{letterOf, partOf, segOf, pieceIn}
 use Rattle.mechanism.specs.Rows.{placeRow, valueRow, rowIn}
@@ -113,7 +111,8 @@ module _ (m : Mechanism) (q : Pose) (margin : Float) (i at : ℕ) (grad slip : L
       }
 
   module _ {n : ℕ} {places : List (List ℕ)} {values : List (List Float)} {gs ss : List Float}
-      (put : Put (m .bodies .coords) (map placeRow pair-rows) (map valueRow pair-rows) (gradsOfPair m q margin i) (slipsOfPair m q margin i) 0 n places₀ places values₀ values (rest start grad) gs (rest start slip) ss) where
+      (put : Put (m .bodies .coords) (map placeRow pair-rows) (map valueRow pair-rows) (gradsOfPair m q margin i) (slipsOfPair m q margin i) 0 n places₀ places values₀ values
+      (rest start grad) gs (rest start slip) ss) where
     n-is : n ≡ length pair-rows
     n-is = put .end ∙ zero-add (length (map placeRow pair-rows)) ∙ length-map pair-rows placeRow
 

@@ -64,7 +64,8 @@ returns : tie.Need-returns
 returns c =
     let p = c .before .before .before .before .before .before .before .before .before in
     let s = p .before .before .before .before .before .before .before .before .before in
-    pair-read (s .args .m) (s .args .q) (s .args .margin) (s .args .i) (s .args .at) (s .args .grad .now) (s .args .slip .now) (s .pre) _ _ refl refl (p .put-pair .ensures) (c .records-from .ensures)
+    pair-read (s .args .m) (s .args .q) (s .args .margin) (s .args .i) (s .args .at) (s .args .grad .now) (s .args .slip .now) (s .pre) _ _ refl refl (p .put-pair .ensures)
+    (c .records-from .ensures)
 
 pub pair-records-spec : {M : Type 1} → statement M
 pair-records-spec =
