@@ -1,7 +1,9 @@
 /* Contact readings of line-and-arc sections: a sheet text in, its listing out (docs/FORMAT.md).
  *
  * Both functions are proved to do what they say for every text. They keep nothing between calls, allocate nothing and
- * may be called from several threads at once. They need about 2 MB of stack. */
+ * may be called from several threads at once. They need about 2 MB of stack. What is proved assumes the arithmetic of
+ * IEEE 754 in its default modes: a thread that has set another rounding mode (fesetround), or flushes subnormal numbers
+ * to zero, gets other readings. */
 #ifndef SEWQIRUN_H
 #define SEWQIRUN_H
 
