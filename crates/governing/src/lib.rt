@@ -63,14 +63,15 @@ pub fn least_gap(best: Best, numbers: &[usize], gaps: &[f64]) -> Best
 {
     let n = least(numbers.len(), gaps.len());
     let mut b = best;
-    let mut i: usize = 0;
-    while i < n {
-        b = lesser_gap(b, numbers[i], gaps[i]);
-        i += 1;
+    let mut k: usize = 0;
+    while k < n {
+        b = lesser_gap(b, numbers[k], gaps[k]);
+        k += 1;
     }
     b
 }
 
+// Its row.
 pub fn row_of_best(best: Best) -> MaybeRow
     ensures { λ r. ⌜ r ≡ rowOfBest best ⌝ }
 {
@@ -80,6 +81,7 @@ pub fn row_of_best(best: Best) -> MaybeRow
     }
 }
 
+// The gap by itself.
 pub fn gap_of_best(best: Best) -> MaybeGap
     ensures { λ r. ⌜ r ≡ gapOfBest best ⌝ }
 {

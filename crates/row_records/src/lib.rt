@@ -44,7 +44,7 @@ struct Waiting {
     gap: [f64; 8],
 }
 
-fn nothing_waits() -> Waiting
+fn empty_block() -> Waiting
     ensures { λ x. ⌜ settledOf x ≡ Nothing ⌝ }
 {
     Waiting {
@@ -67,7 +67,7 @@ fn settled(w: Waiting) -> Best
 }
 
 // With a record more: where it is the pair's its gap waits too. A full block is settled first.
-fn with_record(w: Waiting, r: Row, i: usize, pair: usize) -> Waiting
+fn add_record(w: Waiting, r: Row, i: usize, pair: usize) -> Waiting
     ensures { λ x. ⌜ settledOf x ≡ withRecord (settledOf w) r i pair ⌝ }
 {
     if r.pair != pair {
@@ -146,10 +146,10 @@ fn best_of(rows: &[Row], n: usize, pair: usize) -> Found
     requires { ⌜ n ≤ length (now rows) ⌝ }
     ensures { λ r. ⌜ r ≡ foundOf (now (rows .entry)) pair n ⌝ }
 {
-    let mut w = nothing_waits();
+    let mut w = empty_block();
     let mut i: usize = 0;
     while i < n {
-        w = with_record(w, rows[i], i, pair);
+        w = add_record(w, rows[i], i, pair);
         i += 1;
     }
     let at = place_of(w, n);

@@ -6,10 +6,10 @@ use Rattle.governing.proofs.least_gap.Statement.{statement}
 use Rattle.governing.proofs.least_gap.Tie as tie
 
 abbrev Inv-loop : tie.InvT-loop
-Inv-loop numbers gaps n b₀ i₀ b i = Compared numbers gaps n b₀ b i
+Inv-loop numbers gaps n b₀ k₀ b k = Compared numbers gaps n b₀ b k
 
 abbrev μ-loop : tie.MeasureT-loop
-μ-loop numbers gaps n b₀ i₀ b i = n - i
+μ-loop numbers gaps n b₀ k₀ b k = n - k
 
 least-requires : tie.Need-least-requires Inv-loop μ-loop
 least-requires c κs = search needs
@@ -32,8 +32,8 @@ shared-slice-read-lesser-gap-2 c = let w = c .before .before .before .loop .inv 
 lesser-gap-requires : tie.Need-lesser-gap-requires Inv-loop μ-loop
 lesser-gap-requires c κs = search needs
 
-add-i : tie.Need-add-i Inv-loop μ-loop
-add-i c = let w = c .before .before .before .before .loop .inv in omega arith
+add-k : tie.Need-add-k Inv-loop μ-loop
+add-k c = let w = c .before .before .before .before .loop .inv in omega arith
 
 loop-less : tie.Need-loop-less Inv-loop μ-loop
 loop-less c = omega arith
@@ -57,7 +57,7 @@ least-gap-spec =
     mul-lesser-gap-2
     shared-slice-read-lesser-gap-2
     lesser-gap-requires
-    add-i
+    add-k
     loop-less
     loop-again
     returns)
