@@ -1,3 +1,4 @@
 pub mod Laws
+pub mod Smallest
 pub mod Entries
 pub mod First

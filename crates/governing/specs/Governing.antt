@@ -3,7 +3,7 @@
 use Prim.Native.Nat.{ℕ, _+_, _*_, _<_}
 use mathlib.Core.Path.{_≡_}
 use mathlib.Core.Bool.{Bool, _&&_, cond}
-use mathlib.Core.List.{List}
+use mathlib.Core.List.{List, [], _∷_}
 use lib.Dec.{T, eqb, leb, ltb}
 use lib.ListN.{length, take, drop, replicate}
 use lib.Ieee.{Float, nan, lt, eq}
@@ -12,6 +12,8 @@ use Rattle.laws.specs.Loops.{foldIn}
 use Rattle.ieee.specs.Consts.{zeroF}
 use Rattle.bodies.specs.declared.Checked.the-variants.{Accepted, Refused}
 use Rattle.bodies.specs.declared.Problem.the-variants.{NoSuchThing}
+use Rattle.governing.specs.declared.Best.{Best}
+use Rattle.governing.specs.declared.Best.the-variants.{Nothing, At}
 use Rattle.governing.specs.declared.EntriesAnswer.{EntriesAnswer}
 use Rattle.governing.specs.declared.MaybeGap.{MaybeGap}
 use Rattle.governing.specs.declared.MaybeGap.the-variants.{SomeGap, NoGap}
@@ -47,16 +49,33 @@ module _ (pair : ℕ → ℕ) (gap : ℕ → Float) (n p : ℕ) where
   Governing (SomeRow i) = Governs i
   Governing NoRow = (j : ℕ) → j < n → pair j ≡ p → ⊥
 
+-- ---- the smallest of gaps that come with the numbers of their rows
+-- one gap more: the first, then only a strictly smaller one; a NaN that came first stays
+abbrev pub lesserGap : Best → ℕ → Float → Best
+lesserGap Nothing i g = At i g
+lesserGap (At a h) i g = cond (lt g h) (At i g) (At a h)
+
+-- gap by gap, as far as both lists go
+unfoldable pub leastGap : Best → List ℕ → List Float → Best
+leastGap best [] gs = best
+leastGap best (i ∷ js) [] = best
+leastGap best (i ∷ js) (g ∷ gs) = leastGap (lesserGap best i g) js gs
+
+-- its row, and the gap by itself
+abbrev pub rowOfBest : Best → MaybeRow
+rowOfBest Nothing = NoRow
+rowOfBest (At i g) = SomeRow i
+
+abbrev pub gapOfBest : Best → MaybeGap
+gapOfBest Nothing = NoGap
+gapOfBest (At i g) = SomeGap g
+
 -- ---- of lent arrays: no more records than the shorter holds
 abbrev pub lesser : ℕ → ℕ → ℕ
 lesser a b = cond (ltb a b) a b
 
 abbrev pub recordsIn : ℕ → ℕ → ℕ → ℕ
 recordsIn n places values = lesser n (lesser places values)
-
--- a number below n is a record's
-abbrev pub numbered : ℕ → ℕ → MaybeRow
-numbered n i = cond (ltb i n) (SomeRow i) NoRow
 
 -- ---- one row's entries among those of n rows: 12 where there is no such row, or more coordinates than a description has, or too few entries
 abbrev pub rowThere : (entries coords n i : ℕ) → Bool

@@ -4,7 +4,7 @@ ghost use mathlib.Core.List.{[]};
 ghost use Prim.Native.Nat.{_≤_};
 ghost use lib.ListN.{length};
 ghost use Rattle.mechanism.specs.Rows.{pairIn, gapIn};
-ghost use Rattle.governing.specs.Governing.{governingOf, gapOf, lesser, recordsIn, numbered, rowThere, rowEntries};
+ghost use Rattle.governing.specs.Governing.{governingOf, gapOf, lesserGap, leastGap, rowOfBest, gapOfBest, lesser, recordsIn, rowThere, rowEntries};
 use bodies::Checked;
 use bodies::Problem;
 use mechanism::rows::Place;
@@ -18,6 +18,12 @@ pub enum MaybeRow {
 pub enum MaybeGap {
     SomeGap(f64),
     NoGap,
+}
+
+// The smallest gap so far with its row's number; nothing before the first.
+pub enum Best {
+    Nothing,
+    At { at: usize, gap: f64 },
 }
 
 // The gradient or slip of one row, one entry a coordinate, or the refusal that there is no such row.
@@ -34,22 +40,73 @@ pub fn least(a: usize, b: usize) -> usize
     if a < b { a } else { b }
 }
 
-// The governing row of a pair among the first n, or n where none names the pair.
-fn walked(places: &[Place], values: &[Value], n: usize, pair: usize) -> usize
-    requires { ⌜ (n ≤ length (now places)) × (n ≤ length (now values)) ⌝ }
-    ensures { λ r. ⌜ (r ≤ n) × (numbered n r ≡ governingOf (pairIn (now (places .entry))) (gapIn (now (values .entry))) n pair) ⌝ }
+// ---- the core: gap by gap
+
+// One gap more: the first, then only a strictly smaller one; a NaN that came first stays.
+pub fn lesser_gap(best: Best, at: usize, gap: f64) -> Best
+    ensures { λ r. ⌜ r ≡ lesserGap best at gap ⌝ }
 {
-    let mut best = n;
-    let mut gap = 0.0;
+    match best {
+        Best::Nothing => Best::At { at, gap },
+        Best::At { at: a, gap: h } => {
+            if gap < h {
+                return Best::At { at, gap };
+            }
+            Best::At { at: a, gap: h }
+        }
+    }
+}
+
+// Gap by gap, as far as both slices go.
+pub fn least_gap(best: Best, numbers: &[usize], gaps: &[f64]) -> Best
+    ensures { λ r. ⌜ r ≡ leastGap best (now (numbers .entry)) (now (gaps .entry)) ⌝ }
+{
+    let n = least(numbers.len(), gaps.len());
+    let mut b = best;
+    let mut k: usize = 0;
+    while k < n {
+        b = lesser_gap(b, numbers[k], gaps[k]);
+        k += 1;
+    }
+    b
+}
+
+// Its row.
+pub fn row_of_best(best: Best) -> MaybeRow
+    ensures { λ r. ⌜ r ≡ rowOfBest best ⌝ }
+{
+    match best {
+        Best::Nothing => MaybeRow::NoRow,
+        Best::At { at, gap: _ } => MaybeRow::SomeRow(at),
+    }
+}
+
+// The gap by itself.
+pub fn gap_of_best(best: Best) -> MaybeGap
+    ensures { λ r. ⌜ r ≡ gapOfBest best ⌝ }
+{
+    match best {
+        Best::Nothing => MaybeGap::NoGap,
+        Best::At { at: _, gap } => MaybeGap::SomeGap(gap),
+    }
+}
+
+// ---- of rows in lent arrays
+
+// The smallest gap of a pair's rows among the first n.
+fn walked(places: &[Place], values: &[Value], n: usize, pair: usize) -> Best
+    requires { ⌜ (n ≤ length (now places)) × (n ≤ length (now values)) ⌝ }
+    ensures { λ r. ⌜ (rowOfBest r ≡ governingOf (pairIn (now (places .entry))) (gapIn (now (values .entry))) n pair) × (gapOfBest r ≡ gapOf (pairIn (now (places .entry))) (gapIn (now (values .entry))) (governingOf (pairIn (now (places .entry))) (gapIn (now (values .entry))) n pair)) ⌝ }
+{
+    let mut best = Best::Nothing;
     let mut i: usize = 0;
     while i < n {
         let x = places[i];
         let v = values[i];
         let k = i;
         i += 1;
-        if (x[0] == pair) & ((best == n) | (v[0] < gap)) {
-            best = k;
-            gap = v[0];
+        if x[0] == pair {
+            best = lesser_gap(best, k, v[0]);
         }
     }
     best
@@ -60,11 +117,7 @@ pub fn governing_in(places: &[Place], values: &[Value], n: usize, pair: usize) -
     ensures { λ r. ⌜ r ≡ governingOf (pairIn (now (places .entry))) (gapIn (now (values .entry))) (recordsIn n (length (now (places .entry))) (length (now (values .entry)))) pair ⌝ }
 {
     let k = least(n, least(places.len(), values.len()));
-    let i = walked(places, values, k, pair);
-    if i < k {
-        return MaybeRow::SomeRow(i);
-    }
-    MaybeRow::NoRow
+    row_of_best(walked(places, values, k, pair))
 }
 
 // Its gap.
@@ -72,13 +125,10 @@ pub fn gap_in(places: &[Place], values: &[Value], n: usize, pair: usize) -> Mayb
     ensures { λ r. ⌜ r ≡ gapOf (pairIn (now (places .entry))) (gapIn (now (values .entry))) (governingOf (pairIn (now (places .entry))) (gapIn (now (values .entry))) (recordsIn n (length (now (places .entry))) (length (now (values .entry)))) pair) ⌝ }
 {
     let k = least(n, least(places.len(), values.len()));
-    let i = walked(places, values, k, pair);
-    if i < k {
-        let v = values[i];
-        return MaybeGap::SomeGap(v[0]);
-    }
-    MaybeGap::NoGap
+    gap_of_best(walked(places, values, k, pair))
 }
+
+// ---- one row's entries
 
 // Whether row i of n rows stands among so many entries, `coords` of them a row.
 fn row_there(entries: usize, coords: usize, n: usize, i: usize) -> bool

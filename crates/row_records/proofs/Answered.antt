@@ -1,4 +1,4 @@
--- The answer of a call: the bearing of a pair by the record kept, none of a pair that the description lacks, or the first refusal that applies; and the same by all records. Assumes nothing.
+-- The answer of a call: the bearing of a pair by the record found, none of a pair that the description lacks, or the first refusal that applies; and the same by all records. Assumes nothing.
 use Prim.Native.Nat.{ℕ, _<_, _≤_}
 use native.Mathlib.Omega.{arith}
 use mathlib.Core.Path.{_≡_, refl, sym, ap, _∙_}
@@ -28,16 +28,17 @@ use Rattle.bearings.specs.Bearing.{governedBearing, bearingIf}
 use Rattle.governing.specs.Governing.{governingOf}
 use Rattle.governing.specs.declared.MaybeRow.{MaybeRow}
 use Rattle.governing.specs.declared.MaybeRow.the-variants.{SomeRow, NoRow}
-use Rattle.row_records.specs.declared.Best.{Best}
-use Rattle.row_records.specs.Records.{recordAt, gapAt, kept, bestOf, bearingAt, bearingBest, bearingRecord}
+use Rattle.row_records.specs.declared.Found.{Found}
+use Rattle.row_records.specs.Records.{recordAt, gapAt, bearingRecord}
+use Rattle.row_records.specs.Private.{foundAt, foundOf, bearingAt, bearingFound}
 
 -- ---- c is what the check of the call says, `fits` whether the pose fits
-module _ (m : Mechanism) (q : Pose) (best : Best) (i : ℕ) {fits : Bool} {c : Checked} (f : fits ≡ poseFits (m .bodies) q) (e : c ≡ callChecked m fits true true) where
+module _ (m : Mechanism) (q : Pose) (found : Found) (i : ℕ) {fits : Bool} {c : Checked} (f : fits ≡ poseFits (m .bodies) q) (e : c ≡ callChecked m fits true true) where
   is-call : c ≡ callChecked m (poseFits (m .bodies) q) true true
   is-call = e ∙ ap (λ (b : Bool). callChecked m b true true) f
 
   abbrev answer : MaybeBearing
-  answer = cond (ltb i (m .pairs .count)) (bearingAt (pairFeatures (m .parts) (m .outlines) (pairAt (m .pairs) i)) q best) NoBearing
+  answer = cond (ltb i (m .pairs .count)) (bearingAt (pairFeatures (m .parts) (m .outlines) (pairAt (m .pairs) i)) q found) NoBearing
 
   known : c ≡ Accepted → checkOf m ≡ Accepted
   known h = call-accepted m fits true true (sym e ∙ h) .0
@@ -47,32 +48,32 @@ module _ (m : Mechanism) (q : Pose) (best : Best) (i : ℕ) {fits : Bool} {c : C
 
   pub is-answered : {p : ContactPair} {x : PairFeatures} {r : MaybeBearing} → c ≡ Accepted → i < m .pairs .count → p ≡ pairAt (m .pairs) i
       → x ≡ pairFeaturesAt (m .parts) (m .outlines) p
-      → r ≡ bearingAt x q best → record { checked = Accepted; bearing = r } ≡ bearingBest m q best i
-  unfolding bearingBest
+      → r ≡ bearingAt x q found → record { checked = Accepted; bearing = r } ≡ bearingFound m q found i
+  unfolding bearingFound
   is-answered {r = r} h k u v w =
       ap (bearingIf Accepted)
-      (w ∙ ap (λ (x : PairFeatures). bearingAt x q best) (v ∙ ap (pairFeaturesAt (m .parts) (m .outlines)) u ∙ features-drawn m i (known h) k)
+      (w ∙ ap (λ (x : PairFeatures). bearingAt x q found) (v ∙ ap (pairFeaturesAt (m .parts) (m .outlines)) u ∙ features-drawn m i (known h) k)
       ∙ sym (cond-yes _ _ (lt-ltb i (m .pairs .count) k)))
       ∙ ap (λ (x : Checked). bearingIf x answer) (sym h ∙ is-call)
 
-  pub is-lacking : c ≡ Accepted → m .pairs .count ≤ i → record { checked = Accepted; bearing = NoBearing } ≡ bearingBest m q best i
-  unfolding bearingBest
+  pub is-lacking : c ≡ Accepted → m .pairs .count ≤ i → record { checked = Accepted; bearing = NoBearing } ≡ bearingFound m q found i
+  unfolding bearingFound
   is-lacking h k =
       ap (bearingIf Accepted) (sym (cond-no _ _ (le-ltb i (m .pairs .count) k)))
       ∙ ap (λ (x : Checked). bearingIf x answer) (sym h ∙ is-call)
 
-  pub is-refused : {p : Problem} → c ≡ Refused p → record { checked = Refused p; bearing = NoBearing } ≡ bearingBest m q best i
-  unfolding bearingBest
+  pub is-refused : {p : Problem} → c ≡ Refused p → record { checked = Refused p; bearing = NoBearing } ≡ bearingFound m q found i
+  unfolding bearingFound
   is-refused h = ap (λ (x : Checked). bearingIf x answer) (sym h ∙ is-call)
 
 -- ---- of all records
 module _ (m : Mechanism) (q : Pose) (rows : List Row) (p : ℕ) where
-  bearing-kept : (f : PairFeatures) (g : MaybeRow) → bearingAt f q (kept rows g) ≡ governedBearing f q (recordAt rows) g
-  bearing-kept f NoRow = refl
-  bearing-kept f (SomeRow i) = refl
+  bearing-of : (f : PairFeatures) (g : MaybeRow) → bearingAt f q (foundAt rows g) ≡ governedBearing f q (recordAt rows) g
+  bearing-of f NoRow = refl
+  bearing-of f (SomeRow i) = refl
 
-  pub bearing-is : bearingBest m q (bestOf rows p (length rows)) p ≡ bearingRecord m q rows p
-  unfolding bearingBest bestOf bearingRecord
+  pub bearing-is : bearingFound m q (foundOf rows p (length rows)) p ≡ bearingRecord m q rows p
+  unfolding bearingFound foundOf bearingRecord
   bearing-is =
       ap (λ (b : MaybeBearing). bearingIf (callChecked m (poseFits (m .bodies) q) true true) (cond (ltb p (m .pairs .count)) b NoBearing))
-      (bearing-kept (pairFeatures (m .parts) (m .outlines) (pairAt (m .pairs) p)) (governingOf (λ i. recordAt rows i .pair) (gapAt rows) (length rows) p))
+      (bearing-of (pairFeatures (m .parts) (m .outlines) (pairAt (m .pairs) p)) (governingOf (λ i. recordAt rows i .pair) (gapAt rows) (length rows) p))

@@ -43,10 +43,10 @@ use denote.Triple.Spec.{Meets, tripleOf}
 use denote.Triple.Walked.{says, Stays, stay-dropped, stay-none, walkOf, Walks, ends-at, walked, goes-dropped, goes-none, walk-meets}
 use Rattle.mechanism.specs.declared.rows.Row.{Row}
 use Rattle.mechanism.proofs.rows.Row as T
-use Rattle.row_records.specs.declared.Best.{Best}
-use Rattle.row_records.specs.Records.{bestOf}
-use Rattle.row_records.proofs.Best as S
-use Rattle.row_records.proofs.Best.Laws as S′
+use Rattle.row_records.specs.declared.Found.{Found}
+use Rattle.row_records.specs.Private.{foundOf}
+use Rattle.row_records.proofs.Found as S
+use Rattle.row_records.proofs.Found.Laws as S′
 use Rattle.row_records.proofs.best_of as bo
 use Rattle.row_records.proofs.best_of.Key.{name as #row-records·best-of}
 
@@ -60,7 +60,7 @@ lent rows = sliceVal (rows .ptr) (many rows)
 -- ---- the call of `best_of`
 module _ {M : Type 1} (𝓤 : URA M) (H : Heap 𝓤) (A : Atoms 𝓤) where
   abbrev best-clauses : Clauses 𝓤 bo.ended
-  best-clauses κs a = record { ghost = Unit {0}; requires = λ _. fact 𝓤 (a .1 .0 ≤ many (a .0)); ensures = λ _ r end. fact 𝓤 (r ≡ bestOf (a .0 .now) (a .1 .1 .0) (a .1 .0)) }
+  best-clauses κs a = record { ghost = Unit {0}; requires = λ _. fact 𝓤 (a .1 .0 ≤ many (a .0)); ensures = λ _ r end. fact 𝓤 (r ≡ foundOf (a .0 .now) (a .1 .1 .0) (a .1 .0)) }
 
   abbrev pub BestC : Contract 𝓤
   BestC = tripleOf 𝓤 H A bo.signature (closing 𝓤 H A bo.ended best-clauses)
@@ -77,14 +77,14 @@ module _ {M : Type 1} (𝓤 : URA M) (H : Heap 𝓤) (A : Atoms 𝓤) where
         nothing ! $ owned ! usize (Is usize) (uint-makes 𝓤 H A W w64) p _ (refl, p-fits) $ fjoin ! $ owned ! usize (Is usize) (uint-makes 𝓤 H A W w64) (many rows) _ (refl, room .0) $ fjoin ! $ move ! (1 ∷ 0 ∷ []) $ fjoin ! $ done !
 
     -- what it ensures, and of that the clause alone
-    abbrev pub ensured-best : Best → SProp 𝓤
+    abbrev pub ensured-best : Found → SProp 𝓤
     ensured-best b = ensured 𝓤 H A bo.ended best-clauses (κ, tt) (rows, (many rows, (p, tt))) tt b
 
-    pub said-best : (b : Best) → ent 𝓤 (ensured-best b) (fact 𝓤 (b ≡ bestOf (rows .now) p (many rows)))
-    said-best b = exE 𝓤 _ (λ ws. snd∗ 𝓤 (sem 𝓤 H A (lasts bo.ended (κ, tt) (rows, (many rows, (p, tt))) ws)) (fact 𝓤 (b ≡ bestOf (rows .now) p (many rows))))
+    pub said-best : (b : Found) → ent 𝓤 (ensured-best b) (fact 𝓤 (b ≡ foundOf (rows .now) p (many rows)))
+    said-best b = exE 𝓤 _ (λ ws. snd∗ 𝓤 (sem 𝓤 H A (lasts bo.ended (κ, tt) (rows, (many rows, (p, tt))) ws)) (fact 𝓤 (b ≡ foundOf (rows .now) p (many rows))))
 
 -- ---- the walk. The answer's type, what it is of the governing record and of records and a pair, its MIR type and the callee's name
-module _ (R : RattleType) (answer : Best → R .Denot) (among : List Row → ℕ → R .Denot) (τ : Ty) (callee : Name) where
+module _ (R : RattleType) (answer : Found → R .Denot) (among : List Row → ℕ → R .Denot) (τ : Ty) (callee : Name) where
   abbrev asked : Ended
   asked = record { signature = record { lifetimes = 0; outlives = []; params = plain (λ _. S.the-row) ∷ []; result = plain (λ _. R) }; kept = (yes, tt) }
 
@@ -116,9 +116,9 @@ module _ (R : RattleType) (answer : Best → R .Denot) (among : List Row → ℕ
     Asked = tripleOf 𝓤 H A (asked .signature) (closing 𝓤 H A asked asked-clauses)
 
     -- a value of the answer is of its MIR type, and the answer of the governing record of all is that among all
-    module _ (W : Given 𝓤 H A) (typed : (r : R .Denot) (w : Val) → Is R r (w ∷ []) → Holds (hasTy τ w) × WT w) (all : (rows : List Row) (p : ℕ) → answer (bestOf rows p (length rows)) ≡ among rows p) where
+    module _ (W : Given 𝓤 H A) (typed : (r : R .Denot) (w : Val) → Is R r (w ∷ []) → Holds (hasTy τ w) × WT w) (all : (rows : List Row) (p : ℕ) → answer (foundOf rows p (length rows)) ≡ among rows p) where
       -- the governing record, as it came back, goes to the callee
-      module _ (b : Best) (w : Val) where
+      module _ (b : Found) (w : Val) where
         abbrev to : Asked .Ghost
         to = ((tt, tt, tt, (b, tt), (w ∷ [], tt)), tt)
 
@@ -156,8 +156,8 @@ module _ (R : RattleType) (answer : Best → R .Denot) (among : List Row → ℕ
               move ! (11 ∷ []) $ fsplit ! $ move ! (12 ∷ 0 ∷ []) $ use2 W (raw (BestC 𝓤 H A .pre (to-best 𝓤 H A κ q rows p))) (goes-best 𝓤 H A κ q rows p W room p-fits) $
               -- [what `best_of` asks; pair's; _4; …]
               calls-at ! fm (BestC 𝓤 H A) known-best (to-best 𝓤 H A κ q rows p) (and-then ! (load ! (from ! (stop !)) (look ! 8 refl)) (and-then ! (load ! (from ! (stop !)) (look ! 4 refl)) (and-then ! (load ! (from ! (stop !)) (look ! 6 refl)) (no-more !)))) (λ w.
-              use1 W (later (some (λ (b : Best). ((‵ (flft κ q) ⊛ ‵ ftrue) ⊛ ‵ (S.the-row .own b (w ∷ []))) ⊛ raw (ensured-best 𝓤 H A κ q rows p b)))) (id⊢ 𝓤 _) $ await ! tt $ pick ! (λ b.
-              split ! $ move ! (1 ∷ []) $ use1 W (raw (fact 𝓤 (b ≡ bestOf (rows .now) p (many rows)))) (said-best 𝓤 H A κ q rows p b) $ heard ! (b ≡ bestOf (rows .now) p (many rows)) (λ e.
+              use1 W (later (some (λ (b : Found). ((‵ (flft κ q) ⊛ ‵ ftrue) ⊛ ‵ (S.the-row .own b (w ∷ []))) ⊛ raw (ensured-best 𝓤 H A κ q rows p b)))) (id⊢ 𝓤 _) $ await ! tt $ pick ! (λ b.
+              split ! $ move ! (1 ∷ []) $ use1 W (raw (fact 𝓤 (b ≡ foundOf (rows .now) p (many rows)))) (said-best 𝓤 H A κ q rows p b) $ heard ! (b ≡ foundOf (rows .now) p (many rows)) (λ e.
               split ! $ move ! (1 ∷ []) $ peeks ! S.the-row (Is S.the-row) (shows 𝓤 H A S.the-row) b (w ∷ []) (λ is.
               -- [what the record owns; the token; pair's; _4; …]
               land ! (from ! (stop !)) (init ! 3 refl (EL.lawful S.the-type S′.the-laws 𝓤 H A W tt .typed b _ is .0)) $

@@ -6,15 +6,20 @@ ghost use lib.Seq.{sets};
 ghost use Rattle.mechanism.specs.Description.{pairAt};
 ghost use Rattle.bearings.specs.Bearing.{bearingFrom, rowAt};
 ghost use Rattle.governing.specs.Governing.{recordsIn};
-ghost use Rattle.row_records.specs.Records.{governingRecord, gapRecord, stepOf, bestOf, rowNumber, rowGap, bearingAt, bearingBest, bearingRecord, recordsOf, recordsFit};
+ghost use Rattle.governing.specs.declared.Best.the-variants.{Nothing};
+ghost use Rattle.row_records.specs.Records.{governingRecord, gapRecord, bearingRecord, recordsOf, recordsFit};
+ghost use Rattle.row_records.specs.declared.Found.the-variants.{Record};
+ghost use Rattle.row_records.specs.Private.{settledOf, withRecord, placeOf, foundOf, rowNumber, rowGap, bearingAt, bearingFound};
 use bearings::BearingAnswer;
 use bearings::bearing_of;
 use bearings::governed;
 use bodies::Checked;
 use bodies::pose::Pose;
+use governing::Best;
 use governing::MaybeGap;
 use governing::MaybeRow;
 use governing::least;
+use governing::least_gap;
 use mechanism::Mechanism;
 use mechanism::Outlines;
 use mechanism::Pairs;
@@ -29,62 +34,129 @@ use mechanism::rows::row_from;
 use sides::contacts::PairFeatures;
 use sides::contacts::pair_features_at;
 
-// The record that governs so far, and its number.
-pub enum Best {
-    Nothing,
-    At { at: usize, row: Row },
+// ---- the gaps of a pair's records, block by block
+
+// Gaps of a pair's records that wait to be compared, with the records' numbers, behind the smallest before them.
+struct Waiting {
+    best: Best,
+    count: usize,
+    number: [usize; 8],
+    gap: [f64; 8],
 }
 
-// With one more record looked at.
-pub fn step(best: Best, r: Row, i: usize, pair: usize) -> Best
-    ensures { λ x. ⌜ x ≡ stepOf best r i pair ⌝ }
+fn empty_block() -> Waiting
+    ensures { λ x. ⌜ settledOf x ≡ Nothing ⌝ }
 {
-    match best {
-        Best::Nothing => {
-            if r.pair == pair {
-                return Best::At { at: i, row: r };
-            }
-            Best::Nothing
-        }
-        Best::At { at, row } => {
-            if (r.pair == pair) & (r.gap < row.gap) {
-                return Best::At { at: i, row: r };
-            }
-            Best::At { at, row }
-        }
+    Waiting {
+        best: Best::Nothing,
+        count: 0,
+        number: [0; 8],
+        gap: [0.0; 8],
     }
 }
 
-fn row_number(best: Best) -> MaybeRow
-    ensures { λ x. ⌜ x ≡ rowNumber best ⌝ }
+// What they come to.
+fn settled(w: Waiting) -> Best
+    ensures { λ x. ⌜ x ≡ settledOf w ⌝ }
 {
-    match best {
-        Best::Nothing => MaybeRow::NoRow,
-        Best::At { at, row: _ } => MaybeRow::SomeRow(at),
+    let best = w.best;
+    let n = least(w.count, 8);
+    let number = w.number;
+    let gap = w.gap;
+    least_gap(best, &number[..n], &gap[..n])
+}
+
+// With a record more: where it is the pair's its gap waits too. A full block is settled first.
+fn add_record(w: Waiting, r: Row, i: usize, pair: usize) -> Waiting
+    ensures { λ x. ⌜ settledOf x ≡ withRecord (settledOf w) r i pair ⌝ }
+{
+    if r.pair != pair {
+        return w;
+    }
+    let n = w.count;
+    let mut number = w.number;
+    let mut gap = w.gap;
+    if n < 8 {
+        let best = w.best;
+        number[n] = i;
+        gap[n] = r.gap;
+        return Waiting {
+            best,
+            count: n + 1,
+            number,
+            gap,
+        };
+    }
+    let best = settled(w);
+    number[0] = i;
+    gap[0] = r.gap;
+    Waiting {
+        best,
+        count: 1,
+        number,
+        gap,
     }
 }
 
-fn row_gap(best: Best) -> MaybeGap
-    ensures { λ x. ⌜ x ≡ rowGap best ⌝ }
+// The number of the smallest, or n where there is none.
+fn place_of(w: Waiting, n: usize) -> usize
+    ensures { λ x. ⌜ x ≡ placeOf (settledOf w) n ⌝ }
 {
+    let best = settled(w);
     match best {
-        Best::Nothing => MaybeGap::NoGap,
-        Best::At { at: _, row } => MaybeGap::SomeGap(row.gap),
+        Best::Nothing => n,
+        Best::At { at, gap: _ } => at,
+    }
+}
+
+// ---- the governing record
+
+// The record that governs, and its number.
+enum Found {
+    NoRecord,
+    Record { at: usize, row: Row },
+}
+
+fn record_found(at: usize, row: Row) -> Found
+    ensures { λ x. ⌜ x ≡ Record at row ⌝ }
+{
+    Found::Record { at, row }
+}
+
+fn row_number(found: Found) -> MaybeRow
+    ensures { λ x. ⌜ x ≡ rowNumber found ⌝ }
+{
+    match found {
+        Found::NoRecord => MaybeRow::NoRow,
+        Found::Record { at, row: _ } => MaybeRow::SomeRow(at),
+    }
+}
+
+fn row_gap(found: Found) -> MaybeGap
+    ensures { λ x. ⌜ x ≡ rowGap found ⌝ }
+{
+    match found {
+        Found::NoRecord => MaybeGap::NoGap,
+        Found::Record { at: _, row } => MaybeGap::SomeGap(row.gap),
     }
 }
 
 // The governing record of a pair among the first n.
-fn best_of(rows: &[Row], n: usize, pair: usize) -> Best
+fn best_of(rows: &[Row], n: usize, pair: usize) -> Found
     requires { ⌜ n ≤ length (now rows) ⌝ }
-    ensures { λ r. ⌜ r ≡ bestOf (now (rows .entry)) pair n ⌝ }
+    ensures { λ r. ⌜ r ≡ foundOf (now (rows .entry)) pair n ⌝ }
 {
-    let mut best = Best::Nothing;
+    let mut w = empty_block();
     let mut i: usize = 0;
     while i < n {
-        best = step(best, rows[i], i, pair);
+        w = add_record(w, rows[i], i, pair);
         i += 1;
     }
-    best
+    let at = place_of(w, n);
+    if at < n {
+        return record_found(at, rows[at]);
+    }
+    Found::NoRecord
 }
 
 // The governing row of a pair: the first of its smallest gap.
@@ -114,18 +186,18 @@ fn pair_at(pairs: Pairs, i: usize) -> ContactPair
     pairs.pair[i]
 }
 
-fn bearing_at(f: PairFeatures, q: Pose, best: Best) -> MaybeBearing
-    ensures { λ r. ⌜ r ≡ bearingAt f q best ⌝ }
+fn bearing_at(f: PairFeatures, q: Pose, found: Found) -> MaybeBearing
+    ensures { λ r. ⌜ r ≡ bearingAt f q found ⌝ }
 {
-    match best {
-        Best::Nothing => MaybeBearing::NoBearing,
-        Best::At { at: _, row } => bearing_of(f, q, row),
+    match found {
+        Found::NoRecord => MaybeBearing::NoBearing,
+        Found::Record { at: _, row } => bearing_of(f, q, row),
     }
 }
 
-// The bearing of a pair by the record kept.
-fn bearing_best(m: Mechanism, q: Pose, best: Best, pair: usize) -> BearingAnswer
-    ensures { λ r. ⌜ r ≡ bearingBest m q best pair ⌝ }
+// The bearing of a pair by the record found.
+fn bearing_found(m: Mechanism, q: Pose, found: Found, pair: usize) -> BearingAnswer
+    ensures { λ r. ⌜ r ≡ bearingFound m q found pair ⌝ }
 {
     let bodies = m.bodies;
     let pairs = m.pairs;
@@ -142,7 +214,7 @@ fn bearing_best(m: Mechanism, q: Pose, best: Best, pair: usize) -> BearingAnswer
                 let f = pair_features_at(ps, o, pair_at(pairs, pair));
                 return BearingAnswer {
                     checked: Checked::Accepted,
-                    bearing: bearing_at(f, q, best),
+                    bearing: bearing_at(f, q, found),
                 };
             }
             BearingAnswer {
@@ -159,7 +231,7 @@ pub fn bearing(m: Mechanism, q: Pose, rows: &[Row], pair: usize) -> BearingAnswe
 {
     let n = rows.len();
     let best = best_of(rows, n, pair);
-    bearing_best(m, q, best, pair)
+    bearing_found(m, q, best, pair)
 }
 
 // ---- rows in lent arrays as records

@@ -1,7 +1,9 @@
 use borrow.Author.Needs.{needs}
+use mathlib.Core.Path.{ap, _∙_}
 use lib.ListN.{length}
 use Rattle.mechanism.specs.Rows.{pairIn, gapIn}
-use Rattle.governing.proofs.Laws.{records-few, found-some, found-none}
+use Rattle.governing.specs.Governing.{governingOf}
+use Rattle.governing.proofs.Laws.{records-few, records-are}
 use Rattle.governing.proofs.governing_in.Statement.{statement}
 use Rattle.governing.proofs.governing_in.Tie as tie
 
@@ -16,18 +18,17 @@ walked-requires c κs =
     let s = c .before .before .args in
     records-few (s .n) (length (s .places .now)) (length (s .values .now)) _ _ (c .before .least .ensures) (c .least2 .ensures)
 
+row-of-best-requires : tie.Need-row-of-best-requires
+row-of-best-requires c κs = search needs
+
 returns : tie.Need-returns
 returns c =
-    let s = c .before .before .before .before .args in
-    found-some (s .n) (length (s .places .now)) (length (s .values .now)) _ _ (c .before .before .before .least .ensures) (c .before .before .least2 .ensures)
-    (pairIn (s .places .now)) (gapIn (s .values .now)) (s .pair) _ (c .before .walked .ensures .1) (c .if1 .taken)
-
-returns-2 : tie.Need-returns-2
-returns-2 c =
-    let s = c .before .before .before .before .args in
-    found-none (s .n) (length (s .places .now)) (length (s .values .now)) _ _ (c .before .before .before .least .ensures) (c .before .before .least2 .ensures)
-    (pairIn (s .places .now)) (gapIn (s .values .now)) (s .pair) _ (c .before .walked .ensures .1) (c .if1 .left)
+    let a = c .before .before .before in
+    let s = a .before .args in
+    c .row-of-best .ensures ∙ c .before .walked .ensures .0
+    ∙ ap (λ j. governingOf (pairIn (s .places .now)) (gapIn (s .values .now)) j (s .pair))
+    (records-are (s .n) (length (s .places .now)) (length (s .values .now)) _ _ (a .least .ensures) (c .before .before .least2 .ensures))
 
 pub governing-in-spec : {M : Type 1} → statement M
 governing-in-spec =
-    tie.close (tie.spec least-requires least-requires-2 walked-requires returns returns-2)
+    tie.close (tie.spec least-requires least-requires-2 walked-requires row-of-best-requires returns)

@@ -1,4 +1,4 @@
--- `row_records::bearing` meets its contract: a walk of its MIR, by hand. The slice goes on to `best_of`, of which it knows the contract alone, as of `bearing_best`, and is not had again.
+-- `row_records::bearing` meets its contract: a walk of its MIR, by hand. The slice goes on to `best_of`, of which it knows the contract alone, as of `bearing_found`, and is not had again.
 -- Assumes nothing.
 use mathlib.Core.Path.{_≡_, refl, ap, _∙_}
 use Prim.Native.Nat.{ℕ, _<_, _^_}
@@ -50,19 +50,20 @@ use Rattle.bodies.proofs.pose.Pose.Laws as P′
 use Rattle.bearings.specs.declared.BearingAnswer.{BearingAnswer}
 use Rattle.bearings.proofs.BearingAnswer as R
 use Rattle.bearings.proofs.BearingAnswer.Laws as R′
-use Rattle.row_records.specs.declared.Best.{Best}
-use Rattle.row_records.specs.Records.{bestOf, bearingBest, bearingRecord}
+use Rattle.row_records.specs.declared.Found.{Found}
+use Rattle.row_records.specs.Records.{bearingRecord}
+use Rattle.row_records.specs.Private.{foundOf, bearingFound}
 use Rattle.row_records.proofs.Answered.{bearing-is}
 use Rattle.row_records.proofs.OfBest.{BestC, to-best, goes-best, ensured-best, said-best}
-use Rattle.row_records.proofs.Best as S
-use Rattle.row_records.proofs.Best.Laws as S′
+use Rattle.row_records.proofs.Found as S
+use Rattle.row_records.proofs.Found.Laws as S′
 use Rattle.row_records.proofs.best_of.Symbol as bo-def
 use Rattle.row_records.proofs.best_of.Symbol.{name as #row-records·best-of}
 use Rattle.row_records.proofs.best_of.Met as bo-thm
-use Rattle.row_records.proofs.bearing_best as an
-use Rattle.row_records.proofs.bearing_best.Symbol as an-def
-use Rattle.row_records.proofs.bearing_best.Symbol.{name as #row-records·bearing-best}
-use Rattle.row_records.proofs.bearing_best.Met as an-thm
+use Rattle.row_records.proofs.bearing_found as an
+use Rattle.row_records.proofs.bearing_found.Symbol as an-def
+use Rattle.row_records.proofs.bearing_found.Symbol.{name as #row-records·bearing-found}
+use Rattle.row_records.proofs.bearing_found.Met as an-thm
 use Rattle.row_records.proofs.bearing.Key.{name as #row-records·bearing}
 use Rattle.row_records.proofs.bearing as f
 use Rattle.row_records.proofs.bearing.Statement as stated
@@ -79,7 +80,7 @@ abbrev slice : Ty
 slice = sliceTy (tyRef (named 0) imm (pointee (T.the-row .written)))
 
 module _ {M : Type 1} (𝓤 : URA M) (H : Heap 𝓤) (A : Atoms 𝓤) (mem : Memory → SProp 𝓤) (run : Routine → Fun 𝓤) where
-  -- the contract of `bearing_best`
+  -- the contract of `bearing_found`
   abbrev AnswerC : Contract 𝓤
   AnswerC = tripleOf 𝓤 H A an.signature (an.spec 𝓤 H A mem run)
 
@@ -100,19 +101,19 @@ module _ {M : Type 1} (𝓤 : URA M) (H : Heap 𝓤) (A : Atoms 𝓤) (W : Given
   abbrev Post : Val → SProp 𝓤
   Post = walkOf 𝓤 H A f.ended stayed (f.clauses 𝓤 H A mem run) .post (((κ, tt), (q, tt), tt, args, at), tt)
 
-  -- the governing record, as it came back, goes to `bearing_best`, with the description and the pose, which are made anew
-  abbrev to-answer : Best → Val → AnswerC 𝓤 H A mem run .Ghost
+  -- the governing record, as it came back, goes to `bearing_found`, with the description and the pose, which are made anew
+  abbrev to-answer : Found → Val → AnswerC 𝓤 H A mem run .Ghost
   to-answer b w = ((tt, tt, tt, (d, (z, (b, (p, tt)))), (vd ∷ [], (vz ∷ [], (w ∷ [], (vint w64 p ∷ [], tt))))), tt)
 
-  goes-answer : (b : Best) (w : Val) → ent 𝓤 (sem 𝓤 H A (S.the-row .own b (w ∷ []))) (AnswerC 𝓤 H A mem run .pre (to-answer b w))
+  goes-answer : (b : Found) (w : Val) → ent 𝓤 (sem 𝓤 H A (S.the-row .own b (w ∷ []))) (AnswerC 𝓤 H A mem run .pre (to-answer b w))
   goes-answer b w =
       qed W (‵ (S.the-row .own b (w ∷ [])) ∷ []) ∵ nothing ! $ owned ! usize (Is usize) (uint-makes 𝓤 H A W w64) p _ (refl, p-fits) $ fjoin ! $ move ! (1 ∷ 0 ∷ []) $ fjoin ! $
       owned ! P.the-row (Is P.the-row) (LL.makes P.the-type P′.the-plain 𝓤 H A) z _ gz $ fjoin ! $ owned ! N.the-row (Is N.the-row) (LL.makes N.the-type N′.the-plain 𝓤 H A) d _ gd $ fjoin ! $
       nothing ! $ join ! $ frame ! $ done !
 
   -- of the callee's `ensured`, the clause alone
-  said-answer : (b : Best) (r : BearingAnswer) → ent 𝓤 (ensured 𝓤 H A an.ended (an.clauses 𝓤 H A mem run) tt (d, (z, (b, (p, tt)))) tt r) (fact 𝓤 (r ≡ bearingBest d z b p))
-  said-answer b r = exE 𝓤 _ (λ ws. snd∗ 𝓤 (sem 𝓤 H A (lasts an.ended tt (d, (z, (b, (p, tt)))) ws)) (fact 𝓤 (r ≡ bearingBest d z b p)))
+  said-answer : (b : Found) (r : BearingAnswer) → ent 𝓤 (ensured 𝓤 H A an.ended (an.clauses 𝓤 H A mem run) tt (d, (z, (b, (p, tt)))) tt r) (fact 𝓤 (r ≡ bearingFound d z b p))
+  said-answer b r = exE 𝓤 _ (λ ws. snd∗ 𝓤 (sem 𝓤 H A (lasts an.ended tt (d, (z, (b, (p, tt)))) ws)) (fact 𝓤 (r ≡ bearingFound d z b p)))
 
   exits : (r : BearingAnswer) (v : Val) → r ≡ bearingRecord d z (rows .now) p → ent 𝓤 (⋆ 𝓤 H A ((‵ (flft κ q) ⊛ ‵ ftrue) ∷ ‵ (R.the-row .own r (v ∷ [])) ∷ [])) (Post v)
   exits r v e =
@@ -121,7 +122,7 @@ module _ {M : Type 1} (𝓤 : URA M) (H : Heap 𝓤) (A : Atoms 𝓤) (W : Given
       nothing ! $ owned ! usize (Is usize) (uint-makes 𝓤 H A W w64) p _ (refl, p-fits) $ fjoin ! $ nothing ! $ fjoin ! $
       owned ! P.the-row (Is P.the-row) (LL.makes P.the-type P′.the-plain 𝓤 H A) z _ gz $ fjoin ! $ owned ! N.the-row (Is N.the-row) (LL.makes N.the-type N′.the-plain 𝓤 H A) d _ gd $ fjoin ! $ frame ! $ done !
 
-  module _ (C : Calls 𝓤 H) (Λ : Loops 𝓤 H) (fm : FmC 𝓤 H (W .laws) C) (known-best : Triple 𝓤 (C #row-records·best-of) (BestC 𝓤 H A)) (known-answer : Triple 𝓤 (C #row-records·bearing-best) (AnswerC 𝓤 H A mem run)) where
+  module _ (C : Calls 𝓤 H) (Λ : Loops 𝓤 H) (fm : FmC 𝓤 H (W .laws) C) (known-best : Triple 𝓤 (C #row-records·best-of) (BestC 𝓤 H A)) (known-answer : Triple 𝓤 (C #row-records·bearing-found) (AnswerC 𝓤 H A mem run)) where
     -- the two calls. The types of the locals that hold the description and the pose are of no matter, and large
     module _ (l₀ l₁ l₂ l₃ l₄ l₅ l₆ : ℕ) (τ₁ τ₂ : Ty) where
       abbrev En : Env 𝓤 H
@@ -138,8 +139,8 @@ module _ {M : Type 1} (𝓤 : URA M) (H : Heap 𝓤) (A : Atoms 𝓤) (W : Given
           use2 W (raw (BestC 𝓤 H A .pre (to-best 𝓤 H A κ q rows p))) (goes-best 𝓤 H A κ q rows p W room p-fits) $
           -- [what `best_of` asks; _6; …]
           calls-at ! fm (BestC 𝓤 H A) known-best (to-best 𝓤 H A κ q rows p) (and-then ! (load ! (from ! (stop !)) (look ! 7 refl)) (and-then ! (load ! (from ! (stop !)) (look ! 3 refl)) (and-then ! (load ! (from ! (stop !)) (look ! 5 refl)) (no-more !)))) (λ w.
-          use1 W (later (some (λ (b : Best). ((‵ (flft κ q) ⊛ ‵ ftrue) ⊛ ‵ (S.the-row .own b (w ∷ []))) ⊛ raw (ensured-best 𝓤 H A κ q rows p b)))) (id⊢ 𝓤 _) $ await ! tt $ pick ! (λ b.
-          split ! $ move ! (1 ∷ []) $ use1 W (raw (fact 𝓤 (b ≡ bestOf (rows .now) p n))) (said-best 𝓤 H A κ q rows p b) $ heard ! (b ≡ bestOf (rows .now) p n) (λ e.
+          use1 W (later (some (λ (b : Found). ((‵ (flft κ q) ⊛ ‵ ftrue) ⊛ ‵ (S.the-row .own b (w ∷ []))) ⊛ raw (ensured-best 𝓤 H A κ q rows p b)))) (id⊢ 𝓤 _) $ await ! tt $ pick ! (λ b.
+          split ! $ move ! (1 ∷ []) $ use1 W (raw (fact 𝓤 (b ≡ foundOf (rows .now) p n))) (said-best 𝓤 H A κ q rows p b) $ heard ! (b ≡ foundOf (rows .now) p n) (λ e.
           split ! $ move ! (1 ∷ []) $ peeks ! S.the-row (Is S.the-row) (shows 𝓤 H A S.the-row) b (w ∷ []) (λ is.
           -- [what the record owns; the token; _6; …]
           land ! (from ! (stop !)) (init ! 2 refl (EL.lawful S.the-type S′.the-laws 𝓤 H A W tt .typed b _ is .0)) $
@@ -147,13 +148,13 @@ module _ {M : Type 1} (𝓤 : URA M) (H : Heap 𝓤) (A : Atoms 𝓤) (W : Given
           calls-at ! fm (AnswerC 𝓤 H A mem run) known-answer (to-answer b w)
           (and-then ! (load ! (from ! (stop !)) (look ! 12 refl)) (and-then ! (load ! (from ! (stop !)) (look ! 10 refl)) (and-then ! (load ! (from ! (stop !)) (look ! 2 refl)) (and-then ! (load ! (from ! (stop !)) (look ! 6 refl)) (no-more !))))) (λ v.
           use1 W (later (some (λ (r : BearingAnswer). (‵ ftrue ⊛ ‵ (R.the-row .own r (v ∷ []))) ⊛ raw (ensured 𝓤 H A an.ended (an.clauses 𝓤 H A mem run) tt (d, (z, (b, (p, tt)))) tt r)))) (id⊢ 𝓤 _) $ await ! tt $ pick ! (λ r.
-          split ! $ move ! (1 ∷ []) $ use1 W (raw (fact 𝓤 (r ≡ bearingBest d z b p))) (said-answer b r) $ heard ! (r ≡ bearingBest d z b p) (λ e′.
+          split ! $ move ! (1 ∷ []) $ use1 W (raw (fact 𝓤 (r ≡ bearingFound d z b p))) (said-answer b r) $ heard ! (r ≡ bearingFound d z b p) (λ e′.
           split ! $ drop ! $ peeks ! R.the-row (Is R.the-row) (shows 𝓤 H A R.the-row) r (v ∷ []) (λ is′.
           -- [what the answer owns; the token; _6; …; room for _0; …]
           land ! (from ! (stop !)) (init ! 14 refl (LL.lawful R.the-type R′.the-laws 𝓤 H A W .typed r _ is′ .0)) $
           returns ! (look ! 14 refl) $ forget ! 2 refl $ forget ! 4 refl $ forget ! 6 refl $ forget ! 8 refl $ forget ! 10 refl $ forget ! 12 refl $ forget ! 14 refl $
           move ! (14 ∷ 15 ∷ []) $ free1 ! $ move ! (12 ∷ 13 ∷ []) $ free1 ! $ move ! (10 ∷ 11 ∷ []) $ free1 ! $ move ! (8 ∷ 9 ∷ []) $ free1 ! $ move ! (6 ∷ 7 ∷ []) $ free1 ! $ move ! (4 ∷ 5 ∷ []) $ free1 ! $ move ! (2 ∷ 3 ∷ []) $ free1 ! $ free0 ! $
-          keep ! (1 ∷ 0 ∷ []) $ by ! (exits r v (e′ ∙ ap (λ (x : Best). bearingBest d z x p) e ∙ bearing-is d z (rows .now) p))))))))))
+          keep ! (1 ∷ 0 ∷ []) $ by ! (exits r v (e′ ∙ ap (λ (x : Found). bearingFound d z x p) e ∙ bearing-is d z (rows .now) p))))))))))
 
     walk : ent 𝓤 (onEntry 𝓤 H A f.signature (κ, tt) (q, tt) args at) (WpFn 𝓤 H C Λ code.function (vd ∷ vz ∷ s ∷ vint w64 p ∷ []) Post)
     walk =
@@ -168,7 +169,7 @@ module _ {M : Type 1} (𝓤 : URA M) (H : Heap 𝓤) (A : Atoms 𝓤) (W : Given
         keep ! (16 ∷ 0 ∷ 2 ∷ 3 ∷ 4 ∷ 5 ∷ 6 ∷ 7 ∷ 8 ∷ 9 ∷ 10 ∷ 11 ∷ 12 ∷ 13 ∷ 14 ∷ 15 ∷ []) $
         calls l₀ l₁ l₂ l₃ l₄ l₅ l₆ N′.mir P′.mir)))))))
 
-module _ {M : Type 1} (𝓤 : URA M) (H : Heap 𝓤) (A : Atoms 𝓤) (W : Given 𝓤 H A) (mem : Memory → SProp 𝓤) (run : Routine → Fun 𝓤) (𝓣 : Tables 𝓤 H) (known-best : Triple 𝓤 (𝓣 .C #row-records·best-of) (BestC 𝓤 H A)) (known-answer : Triple 𝓤 (𝓣 .C #row-records·bearing-best) (AnswerC 𝓤 H A mem run)) where
+module _ {M : Type 1} (𝓤 : URA M) (H : Heap 𝓤) (A : Atoms 𝓤) (W : Given 𝓤 H A) (mem : Memory → SProp 𝓤) (run : Routine → Fun 𝓤) (𝓣 : Tables 𝓤 H) (known-best : Triple 𝓤 (𝓣 .C #row-records·best-of) (BestC 𝓤 H A)) (known-answer : Triple 𝓤 (𝓣 .C #row-records·bearing-found) (AnswerC 𝓤 H A mem run)) where
   walks : Walks 𝓤 H A f.ended stayed (WpFn 𝓤 H (𝓣 .C) (𝓣 .Λ) code.function) (f.clauses 𝓤 H A mem run)
   walks = walked 𝓤 H A f.ended stayed (f.clauses 𝓤 H A mem run) (WpFn 𝓤 H (𝓣 .C) (𝓣 .Λ) code.function)
       (λ κs. (LL.vals N.the-type N′.the-laws, (LL.vals P.the-type P′.the-laws, (slice-vals, (uint-vals w64, tt)))))
@@ -188,4 +189,4 @@ bearing-spec 𝓤 H 𝓜 𝓖 𝓡 =
     (tables 𝓤 H 𝓜 𝓡 code.env .C) (tables 𝓤 H 𝓜 𝓡 code.env .Λ) #row-records·bearing code.function (code.unfolded 𝓤 H 𝓜 𝓡)
     (meets 𝓤 H (𝓖 .A) (givenOf 𝓤 H 𝓜 𝓖) (𝓜 .mem) (𝓡 .run) (tablesOf 𝓤 H 𝓜 (tables 𝓤 H 𝓜 𝓡 code.env))
     (cited 𝓤 H (BestC 𝓤 H (𝓖 .A)) 𝓜 𝓡 code.env #row-records·best-of bo-def.routine code.calls-row-records·best-of (bo-thm.met 𝓤 H 𝓜 𝓖 𝓡))
-    (cited 𝓤 H (AnswerC 𝓤 H (𝓖 .A) (𝓜 .mem) (𝓡 .run)) 𝓜 𝓡 code.env #row-records·bearing-best an-def.routine code.calls-row-records·bearing-best (an-thm.met 𝓤 H 𝓜 𝓖 𝓡)))
+    (cited 𝓤 H (AnswerC 𝓤 H (𝓖 .A) (𝓜 .mem) (𝓡 .run)) 𝓜 𝓡 code.env #row-records·bearing-found an-def.routine code.calls-row-records·bearing-found (an-thm.met 𝓤 H 𝓜 𝓖 𝓡)))

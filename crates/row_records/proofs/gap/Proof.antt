@@ -6,7 +6,8 @@ use denote.Triple.Spec.{tripleOf}
 use denote.Triple.Table.{entered, cited}
 use Rattle.governing.proofs.MaybeGap as R
 use Rattle.governing.proofs.MaybeGap.Laws as R′
-use Rattle.row_records.specs.Records.{gapRecord, rowGap}
+use Rattle.row_records.specs.Records.{gapRecord}
+use Rattle.row_records.specs.Private.{rowGap}
 use Rattle.row_records.proofs.Laws.{gap-is}
 use Rattle.row_records.proofs.OfBest.{BestC, meets}
 use Rattle.row_records.proofs.best_of.Symbol as bo-def

@@ -6,7 +6,8 @@ use denote.Triple.Spec.{tripleOf}
 use denote.Triple.Table.{entered, cited}
 use Rattle.governing.proofs.MaybeRow as R
 use Rattle.governing.proofs.MaybeRow.Laws as R′
-use Rattle.row_records.specs.Records.{governingRecord, rowNumber}
+use Rattle.row_records.specs.Records.{governingRecord}
+use Rattle.row_records.specs.Private.{rowNumber}
 use Rattle.row_records.proofs.Laws.{number-is}
 use Rattle.row_records.proofs.OfBest.{BestC, meets}
 use Rattle.row_records.proofs.best_of.Symbol as bo-def

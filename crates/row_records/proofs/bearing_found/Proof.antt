@@ -1,7 +1,7 @@
 use borrow.Author.Needs.{needs}
 use Rattle.row_records.proofs.Answered.{pair-few, is-answered, is-lacking, is-refused}
-use Rattle.row_records.proofs.bearing_best.Statement.{statement}
-use Rattle.row_records.proofs.bearing_best.Tie as tie
+use Rattle.row_records.proofs.bearing_found.Statement.{statement}
+use Rattle.row_records.proofs.bearing_found.Tie as tie
 
 fits-requires : tie.Need-fits-requires
 fits-requires c κs = search needs
@@ -18,7 +18,7 @@ enum-told c = search needs
 pair-at-requires : tie.Need-pair-at-requires
 pair-at-requires c κs =
     let s = c .before .before .before .before .before .before .before .before .before .before .args in
-    pair-few (s .m) (s .q) (s .best) (s .pair) (c .before .before .before .before .before .before .before .fits2 .ensures)
+    pair-few (s .m) (s .q) (s .found) (s .pair) (c .before .before .before .before .before .before .before .fits2 .ensures)
     (c .before .before .before .before .before .before .call-checked .ensures)
     (c .before .before .before .before .enum-told .given .1) (c .before .before .if1 .taken)
 
@@ -31,7 +31,7 @@ bearing-at-requires c κs = search needs
 returns : tie.Need-returns
 returns c =
     let s = c .before .before .before .before .before .before .before .before .before .before .before .before .before .args in
-    is-answered (s .m) (s .q) (s .best) (s .pair) (c .before .before .before .before .before .before .before .before .before .before .fits2 .ensures)
+    is-answered (s .m) (s .q) (s .found) (s .pair) (c .before .before .before .before .before .before .before .before .before .before .fits2 .ensures)
     (c .before .before .before .before .before .before .before .before .before .call-checked .ensures)
     (c .before .before .before .before .before .before .before .enum-told .given .1) (c .before .before .before .before .before .if1 .taken)
     (c .before .before .pair-at .ensures) (c .before .pair-features-at .ensures) (c .bearing-at .ensures)
@@ -39,16 +39,16 @@ returns c =
 returns-2 : tie.Need-returns-2
 returns-2 c =
     let s = c .before .before .before .before .before .before .before .args in
-    is-refused (s .m) (s .q) (s .best) (s .pair) (c .before .before .before .before .fits2 .ensures) (c .before .before .before .call-checked .ensures) (c .before .c .given .1)
+    is-refused (s .m) (s .q) (s .found) (s .pair) (c .before .before .before .before .fits2 .ensures) (c .before .before .before .call-checked .ensures) (c .before .c .given .1)
 
 returns-3 : tie.Need-returns-3
 returns-3 c =
     let s = c .before .before .before .before .before .before .before .before .args in
-    is-lacking (s .m) (s .q) (s .best) (s .pair) (c .before .before .before .before .before .fits2 .ensures) (c .before .before .before .before .call-checked .ensures)
+    is-lacking (s .m) (s .q) (s .found) (s .pair) (c .before .before .before .before .before .fits2 .ensures) (c .before .before .before .before .call-checked .ensures)
     (c .before .before .enum-told .given .1) (c .if1 .left)
 
-pub bearing-best-spec : {M : Type 1} → statement M
-bearing-best-spec =
+pub bearing-found-spec : {M : Type 1} → statement M
+bearing-found-spec =
     tie.close
     (tie.spec
     fits-requires
