@@ -294,7 +294,8 @@ fn records(seed: u64) {
     for (i, text) in texts().iter().enumerate() {
         let Ok(r) = read(text) else { continue };
         rows += r.rows.len();
-        if records::compare(&r.rows, &mut random) {
+        let read = records::Read { text, mechanism: &r.mechanism, pose: &r.pose, rows: &r.rows };
+        if records::compare(&read, &mut random) {
             equal += 1;
         } else {
             different += 1;

@@ -1,6 +1,7 @@
-//! Rows through the static library `row_exports`, beside the original's: the governing row, its gap, gradients and slips by a row's number, the points of both surfaces.
-use crate::contact::{Feature, PartId, Piece, Row, Rows};
+//! Rows through the static library `row_exports`, beside the original's: the governing row, its gap, the bearing by it, gradients and slips by a row's number, the points of both surfaces.
+use crate::contact::{Bearing, Feature, HowItBears, PartId, Piece, Row, Rows};
 use crate::geometry::{Dir, Point};
+use crate::mechanism::{Mechanism, Pose};
 use crate::splitmix::Random;
 
 // A row as the library takes it: its pair, and the letter, part and segment of both pieces; its gap, normal and point.
@@ -17,6 +18,8 @@ extern "C" {
     fn sewqirun_governing_record(places: *const Place, places_count: usize, values: *const Value, values_count: usize, pair: usize) -> usize;
     #[rustfmt::skip]
     fn sewqirun_gap_record(places: *const Place, places_count: usize, values: *const Value, values_count: usize, pair: usize, x: f64) -> f64;
+    #[rustfmt::skip]
+    fn sewqirun_bearing_record(out: *mut [f64; 4], text: *const u8, text_count: usize, places: *const Place, places_count: usize, values: *const Value, values_count: usize, pair: usize, x: f64) -> usize;
     #[rustfmt::skip]
     fn sewqirun_row_entries(out: *mut [f64; 16], entries: *const f64, count: usize, coords: usize, n: usize, i: usize) -> usize;
     fn sewqirun_surfaces(out: *mut [f64; 4], place: *const Place, value: *const Value);
@@ -73,6 +76,41 @@ fn governing_alike(rows: &[Row], k: usize, n: usize) -> bool {
     })
 }
 
+/// A reading: its text, what that says, and its rows.
+pub struct Read<'a> {
+    pub text: &'a [u8],
+    pub mechanism: &'a Mechanism,
+    pub pose: &'a Pose,
+    pub rows: &'a Rows,
+}
+
+fn bearing_numbers(found: Option<Bearing>, none: f64) -> (usize, [f64; 4]) {
+    let Some(b) = found else { return (0, [0.0; 4]) };
+    let how = match b.how {
+        HowItBears::Flat => 1,
+        HowItBears::StopEdge => 2,
+        HowItBears::KeyCorner => 3,
+    };
+    (how, [b.gap, b.point.x, b.point.y, b.slope.unwrap_or(none)])
+}
+
+// The bearing of every pair that the text has, of the number behind and of the last number, by the first rows as records.
+fn bearings_alike(read: &Read, rows: &[Row]) -> bool {
+    let places: Vec<Place> = rows.iter().map(place).collect();
+    let values: Vec<Value> = rows.iter().map(value).collect();
+    let (t, p, v, all) = (read.text.as_ptr(), places.as_ptr(), values.as_ptr(), rows.len());
+    let held = Rows::of(rows[..all.min(HELD)].to_vec());
+    let pairs = u16::try_from(read.mechanism.pairs().len()).expect("at most sixteen pairs");
+    (0..=pairs).chain([u16::MAX]).all(|pair| {
+        [0.5, -0.25].into_iter().all(|none| {
+            let mut out = [f64::NAN; 4];
+            let how = unsafe { sewqirun_bearing_record(&mut out, t, read.text.len(), p, all, v, all, pair.into(), none) };
+            let (expected, numbers) = bearing_numbers(read.mechanism.bearing(read.pose, &held, pair), none);
+            how == expected && all_bits(&out) == all_bits(&numbers)
+        })
+    })
+}
+
 fn surfaces_alike(rows: &[Row]) -> bool {
     rows.iter().all(|row| {
         let mut out = [f64::NAN; 4];
@@ -104,10 +142,11 @@ fn entries_alike(entries: &[f64], coords: usize, n: usize, row: impl Fn(usize) -
 }
 
 // All rows, some of them, and more than there are; then with some of the second halves missing.
-fn alike(rows: &[Row], random: &mut Random) -> bool {
+fn alike(read: &Read, rows: &[Row], random: &mut Random) -> bool {
     let all = rows.len();
     let some = random.next() as usize % (all + 1);
     [(all, all), (all, some), (all, all + 3), (some, all)].into_iter().all(|(k, n)| governing_alike(rows, k, n))
+        && bearings_alike(read, rows)
         && surfaces_alike(rows)
 }
 
@@ -144,7 +183,7 @@ fn some_row(random: &mut Random) -> Row {
     }
 }
 
-// A reading's rows in another order, some with another gap or another pair; rows that no reading made among them.
+// A reading's rows in another order, some with another gap or another pair, some with a piece that is missing, with the sides' pieces exchanged or with a centre; rows that no reading made among them.
 fn made_up(rows: &[Row], random: &mut Random) -> Vec<Row> {
     let mut made: Vec<Row> = rows.to_vec();
     for i in 0..made.len() {
@@ -154,6 +193,16 @@ fn made_up(rows: &[Row], random: &mut Random) -> Vec<Row> {
             0 => made[i].gap = some_float(random),
             1 => made[i].pair = (random.next() % 17) as u16,
             2 => made[i].gap = made[j].gap,
+            _ => {}
+        }
+        let Feature { a, b } = made[i].feature;
+        match random.next() % 12 {
+            0 => made[i].feature = Feature { a: some_piece(random), b },
+            1 => made[i].feature = Feature { a, b: some_piece(random) },
+            2 => made[i].feature = Feature { a: b, b: a },
+            3 => made[i].feature = Feature { a, b: Piece::Center { part: PartId((random.next() % 3) as u16) } },
+            4 => made[i].feature = Feature { a: made[j].feature.a, b },
+            5 => made[i].normal = Dir::new(some_float(random), some_float(random)).unwrap_or(Dir::Y),
             _ => {}
         }
     }
@@ -167,13 +216,14 @@ fn made_up(rows: &[Row], random: &mut Random) -> Vec<Row> {
 }
 
 /// Whether the library answers as the original of the rows of one reading, of the same in the opposite order, and of two lists of made-up rows.
-pub fn compare(rows: &Rows, random: &mut Random) -> bool {
+pub fn compare(read: &Read, random: &mut Random) -> bool {
+    let rows = read.rows;
     let coords = rows.coords();
     let mut turned = rows.rows().to_vec();
     turned.reverse();
-    alike(rows.rows(), random)
-        && alike(&turned, random)
-        && (0..2).all(|_| alike(&made_up(rows.rows(), random), random))
+    alike(read, rows.rows(), random)
+        && alike(read, &turned, random)
+        && (0..2).all(|_| alike(read, &made_up(rows.rows(), random), random))
         && entries_alike(rows.all_grad(), coords, rows.len(), |i| rows.grad(i).to_vec())
         && entries_alike(rows.all_slip(), coords, rows.len(), |i| rows.slip(i).to_vec())
 }

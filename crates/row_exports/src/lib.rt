@@ -4,9 +4,11 @@ ghost use Prim.Native.Nat.{_≤_};
 ghost use lib.ListN.{length, take};
 ghost use Rattle.mechanism.specs.Rows.{pairIn, gapIn, rowIn};
 ghost use Rattle.governing.specs.Governing.{governingOf, gapOf, recordsIn, rowEntries};
-ghost use Rattle.row_records.specs.Records.{governingRecord, gapRecord, recordsOf};
-ghost use Rattle.row_exports.specs.Numbers.{numberOr, gapOr, refusedBy, entriesOver, surfacesOf};
+ghost use Rattle.row_records.specs.Records.{governingRecord, gapRecord, bearingRecord, recordsOf};
+ghost use Rattle.row_exports.specs.Numbers.{numberOr, gapOr, howNumber, slopeOr, bearingNumbers, bearingBy, refusedBy, entriesOver, surfacesOf};
+use bearings::BearingAnswer;
 use bodies::Checked;
+use bodies::pose::Pose;
 use governing::EntriesAnswer;
 use governing::MaybeGap;
 use governing::MaybeRow;
@@ -14,6 +16,10 @@ use governing::gap_in;
 use governing::governing_in;
 use governing::least;
 use governing::row_entries;
+use mechanism::Mechanism;
+use mechanism::bearing::HowItBears;
+use mechanism::bearing::MaybeBearing;
+use mechanism::bearing::MaybeSlope;
 use mechanism::rows::Place;
 use mechanism::rows::Row;
 use mechanism::rows::Value;
@@ -133,6 +139,92 @@ pub extern "C" fn sewqirun_gap_record(
     let h = records_by_value(places, values, n);
     let found = gap_of(h, n, pair);
     gap_or(found, x)
+}
+
+// ---- the bearing by records, of the sheet that a text says
+
+// The bearing of a pair by the first n.
+fn bearing_by(m: Mechanism, q: Pose, h: Records, n: usize, pair: usize) -> BearingAnswer
+    requires { ⌜ n ≤ 64 ⌝ }
+    ensures { λ r. ⌜ r ≡ bearingRecord m q (take n (h .row)) pair ⌝ }
+{
+    row_records::bearing(m, q, &h.row[..n], pair)
+}
+
+fn how_number(h: HowItBears) -> usize
+    ensures { λ r. ⌜ r ≡ howNumber h ⌝ }
+{
+    match h {
+        HowItBears::Flat => 1,
+        HowItBears::StopEdge => 2,
+        HowItBears::KeyCorner => 3,
+    }
+}
+
+// A slope, or x where there is none.
+fn slope_or(found: MaybeSlope, x: f64) -> f64
+    ensures { λ r. ⌜ r ≡ slopeOr found x ⌝ }
+{
+    match found {
+        MaybeSlope::SomeSlope(s) => s,
+        MaybeSlope::NoSlope => x,
+    }
+}
+
+// How it bears, 0 where it does not; the gap, x and y of the point, and the slope.
+pub struct BearingNumbers {
+    how: usize,
+    value: [f64; 4],
+}
+
+// A bearing as numbers, x for a slope that it does not have.
+fn bearing_numbers(found: MaybeBearing, x: f64) -> BearingNumbers
+    ensures { λ r. ⌜ r ≡ bearingNumbers found x ⌝ }
+{
+    match found {
+        MaybeBearing::SomeBearing(b) => {
+            let h = b.how;
+            let p = b.point;
+            let s = b.slope;
+            let how = how_number(h);
+            let slope = slope_or(s, x);
+            BearingNumbers {
+                how,
+                value: [b.gap, p.x, p.y, slope],
+            }
+        }
+        MaybeBearing::NoBearing => BearingNumbers {
+            how: 0,
+            value: [0.0, 0.0, 0.0, 0.0],
+        },
+    }
+}
+
+// Writes the gap, the point and the slope of the bearing of a pair by the first 64 records, at the pose of the sheet that a text says, and answers how it bears.
+#[no_mangle]
+pub extern "C" fn sewqirun_bearing_record(
+    out: &mut Surfaces,
+    text: &[u8],
+    places: &[Place],
+    values: &[Value],
+    pair: usize,
+    x: f64,
+) -> usize
+    ensures { λ r. ⌜ (r ≡ bearingBy (now (text .entry)) (now (places .entry)) (now (values .entry)) pair x .how) × (now (out .exit) ≡ bearingBy (now (text .entry)) (now (places .entry)) (now (values .entry)) pair x .value) ⌝ }
+{
+    let s = sheet::read(text);
+    let m = s.mechanism;
+    let e = s.entries;
+    let p = sheet::posed::posed(m, e);
+    let q = p.pose;
+    let n = least(64, least(places.len(), values.len()));
+    let h = records_by_value(places, values, n);
+    let a = bearing_by(m, q, h, n, pair);
+    let b = a.bearing;
+    let k = bearing_numbers(b, x);
+    let value = k.value;
+    *out = value;
+    k.how
 }
 
 // ---- a row's columns and its surfaces
