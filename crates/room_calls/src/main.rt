@@ -1,6 +1,6 @@
 // Prints how much room `rows_in_numbers` asks for, of sheet texts from standard input, each behind its length in six decimal digits and a newline: X,number,place where a text is refused (document 01's 1 to 11 and 13,
 // with 256 rows lent), else `accepted` and the fewest places, values, gradients and slips, each with plenty of the others, that are accepted, then `kept`, or `written` where a refused call wrote something or an accepted one something
-// past its last row. The files stdin and stdout beside this program were made by `oracle/readings store`: the numbers are the Rust's faces and discs.
+// past its last row, or where the same call over records does not answer and leave the same. The files stdin and stdout beside this program were made by `oracle/readings store`: the numbers are the Rust's faces and discs.
 ghost use Prim.Native.Nat.{_≤_};
 use bodies::Bodies;
 use bodies::Checked;
@@ -9,8 +9,15 @@ use bodies::pose::Placement;
 use bodies::pose::Pose;
 use bodies::pose::Posed;
 use mechanism::Mechanism;
+use mechanism::features::Feature;
+use mechanism::features::letter;
+use mechanism::features::part;
+use mechanism::features::seg;
 use mechanism::rows::Place;
+use mechanism::rows::Row;
 use mechanism::rows::Value;
+use mechanism::rows::row_from;
+use record_rows::rows;
 use shown_rows::RowsAnswer;
 use shown_rows::rows_in_numbers;
 
@@ -40,9 +47,9 @@ fn print_problem(p: Problem) {
 // ---- what stood in the lent arrays before the call
 
 fn is_place_kept(p: Place) -> bool {
-    ((p[0] == 7) & (p[1] == 7))
+    ((p[0] == 7) & (p[1] == 1))
         & ((p[2] == 7) & (p[3] == 7))
-        & ((p[4] == 7) & (p[5] == 7))
+        & ((p[4] == 1) & (p[5] == 7))
         & (p[6] == 7)
 }
 
@@ -157,9 +164,111 @@ fn called(
     )
 }
 
+// ---- the same over records, in an array of the callee's own
+
+pub struct Records {
+    row: [Row; 257],
+}
+
+// The records that a call left, and its answer.
+pub struct Left {
+    row: [Row; 257],
+    answer: RowsAnswer,
+}
+
+// Calls `rows` with the first n records.
+fn called_records(
+    m: Mechanism,
+    q: Pose,
+    margin: f64,
+    h: Records,
+    n: usize,
+    grad: &mut [f64],
+    slip: &mut [f64],
+) -> Left
+    requires { ⌜ n ≤ 257 ⌝ }
+{
+    let mut row = h.row;
+    let answer = rows(m, q, margin, &mut row[..n], grad, slip);
+    Left { row, answer }
+}
+
+fn is_number(x: f64, y: f64) -> bool {
+    (x == y) | ((x != x) & (y != y))
+}
+
+// Whether a record is the row of these numbers.
+fn is_row(r: Row, p: Place, v: Value) -> bool {
+    let f = r.feature;
+    let a = f.a;
+    let b = f.b;
+    let normal = r.normal;
+    let point = r.point;
+    ((r.pair == p[0]) & ((letter(a) == p[1]) & (part(a) == p[2])))
+        & ((seg(a) == p[3]) & ((letter(b) == p[4]) & (part(b) == p[5])))
+        & ((seg(b) == p[6]) & (is_number(r.gap, v[0]) & is_number(normal.x, v[1])))
+        & (is_number(normal.y, v[2]) & (is_number(point.x, v[3]) & is_number(point.y, v[4])))
+}
+
+// Whether all records are the rows of numbers, those past the last row too.
+fn are_records(c: Left, places: &[Place; 257], values: &[Value; 257]) -> bool {
+    let row = c.row;
+    let mut i: usize = 0;
+    while i < 257 {
+        let r = row[i];
+        let p = places[i];
+        let v = values[i];
+        i += 1;
+        if !is_row(r, p, v) {
+            return false;
+        }
+    }
+    true
+}
+
+fn are_entries(a: &[f64; 4112], b: &[f64; 4112]) -> bool {
+    let mut i: usize = 0;
+    while i < 4112 {
+        let x = a[i];
+        let y = b[i];
+        i += 1;
+        if !is_number(x, y) {
+            return false;
+        }
+    }
+    true
+}
+
+// Calls it with records that hold a pattern, and looks whether everything is as the call over numbers left it.
+fn is_same(
+    m: Mechanism,
+    q: Pose,
+    margin: f64,
+    room: Room,
+    r: RowsAnswer,
+    places: &[Place; 257],
+    values: &[Value; 257],
+    grads: &[f64; 4112],
+    slips: &[f64; 4112],
+) -> bool {
+    let mut grad = [0.5; 4112];
+    let mut slip = [0.5; 4112];
+    let none = row_from([7, 1, 7, 7, 1, 7, 7], [0.5; 5]);
+    let h = Records { row: [none; 257] };
+    let n = least(least(room.places, room.values), 257);
+    let k = least(room.grads, 4112);
+    let l = least(room.slips, 4112);
+    let c = called_records(m, q, margin, h, n, &mut grad[..k], &mut slip[..l]);
+    let a = c.answer;
+    let x = a.checked;
+    let y = r.checked;
+    ((is_accepted(x) == is_accepted(y)) & (a.count == r.count))
+        & (are_records(c, places, values) & (are_entries(&grad, grads) & are_entries(&slip, slips)))
+}
+
 // Calls it with arrays that hold a pattern, and looks where that is left.
 fn tried(m: Mechanism, q: Pose, margin: f64, room: Room) -> Outcome {
-    let mut places = [[7usize; 7]; 257];
+    let mut places = [[7usize, 1, 7, 7, 1, 7, 7]; 257];
     let mut values = [[0.5; 5]; 257];
     let mut grad = [0.5; 4112];
     let mut slip = [0.5; 4112];
@@ -177,10 +286,11 @@ fn tried(m: Mechanism, q: Pose, margin: f64, room: Room) -> Outcome {
     let bodies = m.bodies;
     let n = rows_of(r);
     let k = entries_of(n, bodies.coords);
+    let kept = (are_places_kept(&places, n) & are_values_kept(&values, n))
+        & (are_entries_kept(&grad, k) & are_entries_kept(&slip, k));
     Outcome {
         accepted: is_accepted(c),
-        kept: (are_places_kept(&places, n) & are_values_kept(&values, n))
-            & (are_entries_kept(&grad, k) & are_entries_kept(&slip, k)),
+        kept: kept & is_same(m, q, margin, room, r, &places, &values, &grad, &slip),
     }
 }
 
