@@ -64,7 +64,18 @@ fn put_pair(
     };
     let n = pair_candidates(&mut near, &mut named, ps, o, q, p);
     put_shown(
-        places, values, grad, slip, 0, s, &near, &named, n, margin, bodies, q,
+        places,
+        values,
+        grad,
+        slip,
+        0,
+        s,
+        &near,
+        &named,
+        n,
+        margin,
+        bodies,
+        q,
     )
 }
 

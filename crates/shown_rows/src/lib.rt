@@ -190,14 +190,7 @@ pub fn rows_in_numbers(
     ensures { λ _. ⌜ now (grad .exit) ≡ ifAccepted (rowsChecked m q (length (now (places .entry))) (length (now (values .entry))) (length (now (grad .entry))) (length (now (slip .entry)))) (sets (now (grad .entry)) 0 (gradsOf m q margin)) (now (grad .entry)) ⌝ }
     ensures { λ _. ⌜ now (slip .exit) ≡ ifAccepted (rowsChecked m q (length (now (places .entry))) (length (now (values .entry))) (length (now (grad .entry))) (length (now (slip .entry)))) (sets (now (slip .entry)) 0 (slipsOf m q margin)) (now (slip .entry)) ⌝ }
 {
-    let c = rows_checked(
-        m,
-        q,
-        places.len(),
-        values.len(),
-        grad.len(),
-        slip.len(),
-    );
+    let c = rows_checked(m, q, places.len(), values.len(), grad.len(), slip.len());
     match c {
         Checked::Refused(p) => refused(p),
         Checked::Accepted => {

@@ -83,9 +83,19 @@ use Rattle.record_rows.proofs.put_pairs.Code as code
 use Rattle.record_rows.proofs.put_pairs.Code.Mir as m
 
 abbrev stayed : Stays (f.ended .signature .params) (f.ended .kept)
-stayed = (stay-none (λ _. N.the-row) yes, (stay-none (λ _. P.the-row) yes,
-    (stay-none (λ _. f64) yes, (stay-slice (0 ∷ []) tt (plain (λ _. T.the-row)),
-    (stay-slice (1 ∷ []) tt (plain (λ _. f64)), (stay-slice (2 ∷ []) tt (plain (λ _. f64)), (stay-none (λ _. usize) yes, tt)))))))
+stayed = (
+  stay-none (λ _. N.the-row) yes,
+  (
+    stay-none (λ _. P.the-row) yes,
+    (
+      stay-none (λ _. f64) yes,
+      (
+        stay-slice (0 ∷ []) tt (plain (λ _. T.the-row)),
+        (stay-slice (1 ∷ []) tt (plain (λ _. f64)), (stay-slice (2 ∷ []) tt (plain (λ _. f64)), (stay-none (λ _. usize) yes, tt))),
+      ),
+    ),
+  ),
+)
 
 abbrev word : Ty
 word = tyInt w64
@@ -215,8 +225,16 @@ module _ {M : Type 1} (𝓤 : URA M) (H : Heap 𝓤) (A : Atoms 𝓤) (W : Given
   -- ---- the call of `pair_records`: the gradients lent again for ν under the name δ, the slips for ν′ under δ′
   module _ (i ν ν′ : ℕ) (δ δ′ : GName) where
     abbrev to-pair : PairC 𝓤 H A mem run .Ghost
-    to-pair = (((ν ∷ [], (ν′ ∷ [], tt)), (fullShare, (fullShare, tt)), tt, (xg δ (grads i), (xs δ′ (slips i), (at i, (d, (z, (x, (i, tt))))))),
-        (sg ∷ [], (ss ∷ [], (vint w64 (at i) ∷ [], (vd ∷ [], (vz ∷ [], (vx ∷ [], (vint w64 i ∷ [], tt)))))))), tt)
+    to-pair = (
+      (
+        (ν ∷ [], (ν′ ∷ [], tt)),
+        (fullShare, (fullShare, tt)),
+        tt,
+        (xg δ (grads i), (xs δ′ (slips i), (at i, (d, (z, (x, (i, tt))))))),
+        (sg ∷ [], (ss ∷ [], (vint w64 (at i) ∷ [], (vd ∷ [], (vz ∷ [], (vx ∷ [], (vint w64 i ∷ [], tt))))))),
+      ),
+      tt,
+    )
 
     abbrev Lg : Fml
     Lg = MutSlice (named 0) (ν ∷ []) f64 .own (xg δ (grads i)) (sg ∷ [])
@@ -462,7 +480,7 @@ module _ {M : Type 1} (𝓤 : URA M) (H : Heap 𝓤) (A : Atoms 𝓤) (W : Given
       move ! (39 ∷ []) $ split ! $ move ! (1 ∷ []) $ split ! $ move ! (1 ∷ []) $ split ! $
       -- [slip's token; true; grad's token; out's token; slip; grad; out; _17; …]
       keep ! (6 ∷ 3 ∷ 5 ∷ 2 ∷ 4 ∷ 0 ∷ 7 ∷ 8 ∷ 9 ∷ 10 ∷ 11 ∷ 12 ∷ 13 ∷ 14 ∷ 15 ∷ 16 ∷ 17 ∷ 18 ∷ 19 ∷ 20 ∷ 21 ∷ 22 ∷ 23 ∷ 24 ∷ 25 ∷
-          26 ∷ 27 ∷ 28 ∷ 29 ∷ 30 ∷ 31 ∷ 32 ∷ 33 ∷ 34 ∷ 35 ∷ 36 ∷ 37 ∷ 38 ∷ 39 ∷ 40 ∷ 41 ∷ 42 ∷ []) $
+      26 ∷ 27 ∷ 28 ∷ 29 ∷ 30 ∷ 31 ∷ 32 ∷ 33 ∷ 34 ∷ 35 ∷ 36 ∷ 37 ∷ 38 ∷ 39 ∷ 40 ∷ 41 ∷ 42 ∷ []) $
       looped 𝓣 fm known-pair known-put N′.mir P′.mir l₀ l₁ l₂ l₃ l₄ l₅ l₆ l₇ l₈ l₉ l₁₀ l₁₁ l₁₂ l₁₃ l₁₄ l₁₅ l₁₆ l₁₇))))))))))))))))))
 
 module _ {M : Type 1} (𝓤 : URA M) (H : Heap 𝓤) (A : Atoms 𝓤) (W : Given 𝓤 H A) (mem : Memory → SProp 𝓤) (run : Routine → Fun 𝓤) (𝓣 : Tables 𝓤 H)
@@ -470,8 +488,13 @@ module _ {M : Type 1} (𝓤 : URA M) (H : Heap 𝓤) (A : Atoms 𝓤) (W : Given
   walks : Walks 𝓤 H A f.ended stayed (WpFn 𝓤 H (𝓣 .C) (𝓣 .Λ) code.function) (f.clauses 𝓤 H A mem run)
   walks = walked 𝓤 H A f.ended stayed (f.clauses 𝓤 H A mem run) (WpFn 𝓤 H (𝓣 .C) (𝓣 .Λ) code.function)
       (λ κs. (LL.vals N.the-type N′.the-laws, (LL.vals P.the-type P′.the-laws, (float-vals binary64, (slice-vals, (slice-vals, (slice-vals, (uint-vals w64, tt))))))))
-      (λ κs. (LL.tells N.the-type N′.the-laws, (LL.tells P.the-type P′.the-laws,
-      (float-tells binary64, (mut-slice-tells (named 0) (κs .0) T.the-row, (mut-slice-tells (named 1) (κs .1 .0) f64, (mut-slice-tells (named 2) (κs .1 .1 .0) f64, (uint-tells w64, tt))))))))
+      (λ κs. (
+        LL.tells N.the-type N′.the-laws,
+        (
+          LL.tells P.the-type P′.the-laws,
+          (float-tells binary64, (mut-slice-tells (named 0) (κs .0) T.the-row, (mut-slice-tells (named 1) (κs .1 .0) f64, (mut-slice-tells (named 2) (κs .1 .1 .0) f64, (uint-tells w64, tt))))),
+        ),
+      ))
       (λ κs qs bounds a g are. needs 𝓤 (a .1 .1 .1 .1 .1 .1 .0 ≡ pairsIf
       (recordsChecked (a .0) (a .1 .0) (length (a .1 .1 .1 .0 .now)) (length (a .1 .1 .1 .1 .0 .now)) (length (a .1 .1 .1 .1 .1 .0 .now))) (a .0 .pairs .count)) _ (λ pre.
       walk 𝓤 H A W mem run (κs .0) (κs .1 .0) (κs .1 .1 .0) (qs .0) (qs .1 .0) (qs .1 .1 .0) (a .0) (a .1 .0) (a .1 .1 .0) (LL.val N.the-type N′.the-laws (a .0))
@@ -481,10 +504,22 @@ module _ {M : Type 1} (𝓤 : URA M) (H : Heap 𝓤) (A : Atoms 𝓤) (W : Given
       𝓣 (fmOf 𝓤 H (W .laws) 𝓣) known-pair known-put))
 
   meets : Meets 𝓤 H A f.signature (WpFn 𝓤 H (𝓣 .C) (𝓣 .Λ) code.function) (f.spec 𝓤 H A mem run)
-  meets = walk-meets 𝓤 H A f.ended stayed W
-      (goes-none 𝓤 H A W 3 (λ _. N.the-row) yes (λ κs x f. refl), (goes-none 𝓤 H A W 3 (λ _. P.the-row) yes (λ κs x f. refl), (goes-none 𝓤 H A W 3 (λ _. f64) yes (λ κs x f. refl),
-      (goes-slice 𝓤 H A W 3 0 tt (plain (λ _. T.the-row)), (goes-slice 𝓤 H A W 3 1 tt (plain (λ _. f64)),
-      (goes-slice 𝓤 H A W 3 2 tt (plain (λ _. f64)), (goes-none 𝓤 H A W 3 (λ _. usize) yes (λ κs x f. refl), tt)))))))
+  meets = walk-meets 𝓤 H A f.ended stayed W (
+    goes-none 𝓤 H A W 3 (λ _. N.the-row) yes (λ κs x f. refl),
+    (
+      goes-none 𝓤 H A W 3 (λ _. P.the-row) yes (λ κs x f. refl),
+      (
+        goes-none 𝓤 H A W 3 (λ _. f64) yes (λ κs x f. refl),
+        (
+          goes-slice 𝓤 H A W 3 0 tt (plain (λ _. T.the-row)),
+          (
+            goes-slice 𝓤 H A W 3 1 tt (plain (λ _. f64)),
+            (goes-slice 𝓤 H A W 3 2 tt (plain (λ _. f64)), (goes-none 𝓤 H A W 3 (λ _. usize) yes (λ κs x f. refl), tt)),
+          ),
+        ),
+      ),
+    ),
+  )
       (f.clauses 𝓤 H A mem run) (WpFn 𝓤 H (𝓣 .C) (𝓣 .Λ) code.function) (WpFn-mono 𝓤 H (W .laws) 𝓣 code.function) walks
 
 pub put-pairs-spec : {M : Type 1} → stated.statement M

@@ -56,9 +56,11 @@ loop-again : tie.Need-loop-again Inv-loop μ-loop
 loop-again c =
     let s = c .before .before .before .before .before .before in
     let l = c .before .before .before .before .loop in
-    let turned = list-turn (rowAt (s .args .places .now) (s .args .values .now)) (s .args .n) (l .i) (omega arith) in
-    (omega arith, fill-put (omega arith) (turned ∙ ap (λ r. r ∷ listIn (rowAt (s .args .places .now) (s .args .values .now)) (s .args .n - (l .i + 1)) (l .i + 1)) (sym (c .row-from2 .ensures)))
-    (l .inv .1))
+    let turned = list-turn (rowAt (s .args .places .now) (s .args .values .now)) (s .args .n) (l .i) (omega arith) in (
+      omega arith,
+      fill-put (omega arith) (turned ∙ ap (λ r. r ∷ listIn (rowAt (s .args .places .now) (s .args .values .now)) (s .args .n - (l .i + 1)) (l .i + 1)) (sym (c .row-from2 .ensures)))
+          (l .inv .1),
+    )
 
 returns : tie.Need-returns Inv-loop μ-loop
 returns c =

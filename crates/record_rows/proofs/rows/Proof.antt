@@ -87,8 +87,13 @@ use Rattle.record_rows.proofs.rows.Code as code
 use Rattle.record_rows.proofs.rows.Code.Mir as m
 
 abbrev stayed : Stays (f.ended .signature .params) (f.ended .kept)
-stayed = (stay-none (λ _. N.the-row) yes, (stay-none (λ _. P.the-row) yes,
-    (stay-none (λ _. f64) yes, (gave-slice (0 ∷ []) tt (plain (λ _. T.the-row)), (gave-slice (1 ∷ []) tt (plain (λ _. f64)), (gave-slice (2 ∷ []) tt (plain (λ _. f64)), tt))))))
+stayed = (
+  stay-none (λ _. N.the-row) yes,
+  (
+    stay-none (λ _. P.the-row) yes,
+    (stay-none (λ _. f64) yes, (gave-slice (0 ∷ []) tt (plain (λ _. T.the-row)), (gave-slice (1 ∷ []) tt (plain (λ _. f64)), (gave-slice (2 ∷ []) tt (plain (λ _. f64)), tt)))),
+  ),
+)
 
 abbrev word : Ty
 word = tyInt w64
@@ -403,8 +408,13 @@ module _ {M : Type 1} (𝓤 : URA M) (H : Heap 𝓤) (A : Atoms 𝓤) (W : Given
   walks : Walks 𝓤 H A f.ended stayed (WpFn 𝓤 H (𝓣 .C) (𝓣 .Λ) code.function) (f.clauses 𝓤 H A mem run)
   walks = walked 𝓤 H A f.ended stayed (f.clauses 𝓤 H A mem run) (WpFn 𝓤 H (𝓣 .C) (𝓣 .Λ) code.function)
       (λ κs. (LL.vals N.the-type N′.the-laws, (LL.vals P.the-type P′.the-laws, (float-vals binary64, (slice-vals, (slice-vals, (slice-vals, tt)))))))
-      (λ κs. (LL.tells N.the-type N′.the-laws, (LL.tells P.the-type P′.the-laws,
-      (float-tells binary64, (mut-slice-tells (named 0) (κs .0) T.the-row, (mut-slice-tells (named 1) (κs .1 .0) f64, (mut-slice-tells (named 2) (κs .1 .1 .0) f64, tt)))))))
+      (λ κs. (
+        LL.tells N.the-type N′.the-laws,
+        (
+          LL.tells P.the-type P′.the-laws,
+          (float-tells binary64, (mut-slice-tells (named 0) (κs .0) T.the-row, (mut-slice-tells (named 1) (κs .1 .0) f64, (mut-slice-tells (named 2) (κs .1 .1 .0) f64, tt)))),
+        ),
+      ))
       (λ κs qs bounds a g are. via 𝓤 _ (fst∗ 𝓤 _ (emp 𝓤))
       (walk 𝓤 H A W mem run (κs .0) (κs .1 .0) (κs .1 .1 .0) (qs .0) (qs .1 .0) (qs .1 .1 .0) (a .0) (a .1 .0) (a .1 .1 .0) (LL.val N.the-type N′.the-laws (a .0))
       (LL.val P.the-type P′.the-laws (a .1 .0)) _
@@ -412,9 +422,16 @@ module _ {M : Type 1} (𝓤 : URA M) (H : Heap 𝓤) (A : Atoms 𝓤) (W : Given
       (𝓣 .C) (𝓣 .Λ) (fmOf 𝓤 H (W .laws) 𝓣) known-check known-pairs known-put known-answer))
 
   meets : Meets 𝓤 H A f.signature (WpFn 𝓤 H (𝓣 .C) (𝓣 .Λ) code.function) (f.spec 𝓤 H A mem run)
-  meets = walk-meets 𝓤 H A f.ended stayed W
-      (goes-none 𝓤 H A W 3 (λ _. N.the-row) yes (λ κs x f. refl), (goes-none 𝓤 H A W 3 (λ _. P.the-row) yes (λ κs x f. refl), (goes-none 𝓤 H A W 3 (λ _. f64) yes (λ κs x f. refl),
-      (goes-gave-slice 𝓤 H A W 3 0 tt (plain (λ _. T.the-row)), (goes-gave-slice 𝓤 H A W 3 1 tt (plain (λ _. f64)), (goes-gave-slice 𝓤 H A W 3 2 tt (plain (λ _. f64)), tt))))))
+  meets = walk-meets 𝓤 H A f.ended stayed W (
+    goes-none 𝓤 H A W 3 (λ _. N.the-row) yes (λ κs x f. refl),
+    (
+      goes-none 𝓤 H A W 3 (λ _. P.the-row) yes (λ κs x f. refl),
+      (
+        goes-none 𝓤 H A W 3 (λ _. f64) yes (λ κs x f. refl),
+        (goes-gave-slice 𝓤 H A W 3 0 tt (plain (λ _. T.the-row)), (goes-gave-slice 𝓤 H A W 3 1 tt (plain (λ _. f64)), (goes-gave-slice 𝓤 H A W 3 2 tt (plain (λ _. f64)), tt))),
+      ),
+    ),
+  )
       (f.clauses 𝓤 H A mem run) (WpFn 𝓤 H (𝓣 .C) (𝓣 .Λ) code.function) (WpFn-mono 𝓤 H (W .laws) 𝓣 code.function) walks
 
 pub rows-spec : {M : Type 1} → stated.statement M

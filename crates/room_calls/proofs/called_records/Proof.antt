@@ -82,8 +82,19 @@ use Rattle.room_calls.proofs.called_records.Code as code
 use Rattle.room_calls.proofs.called_records.Code.Mir as m
 
 abbrev stayed : Stays (f.ended .signature .params) (f.ended .kept)
-stayed = (stay-none (λ _. N.the-row) yes, (stay-none (λ _. P.the-row) yes, (stay-none (λ _. f64) yes, (stay-none (λ _. S.the-row) yes,
-    (stay-none (λ _. usize) yes, (gave-slice (0 ∷ []) tt (plain (λ _. f64)), (gave-slice (1 ∷ []) tt (plain (λ _. f64)), tt)))))))
+stayed = (
+  stay-none (λ _. N.the-row) yes,
+  (
+    stay-none (λ _. P.the-row) yes,
+    (
+      stay-none (λ _. f64) yes,
+      (
+        stay-none (λ _. S.the-row) yes,
+        (stay-none (λ _. usize) yes, (gave-slice (0 ∷ []) tt (plain (λ _. f64)), (gave-slice (1 ∷ []) tt (plain (λ _. f64)), tt))),
+      ),
+    ),
+  ),
+)
 
 abbrev word : Ty
 word = tyInt w64
@@ -351,7 +362,7 @@ module _ {M : Type 1} (𝓤 : URA M) (H : Heap 𝓤) (A : Atoms 𝓤) (W : Given
         move ! (36 ∷ []) $ split ! $ move ! (1 ∷ []) $ split ! $
         -- [κ₁'s token; true; κ's token; slip; grad; _16; …]
         keep ! (5 ∷ 6 ∷ 7 ∷ 8 ∷ 9 ∷ 10 ∷ 11 ∷ 12 ∷ 13 ∷ 14 ∷ 15 ∷ 16 ∷ 17 ∷ 18 ∷ 19 ∷ 20 ∷ 21 ∷ 22 ∷ 23 ∷ 24 ∷ 25 ∷ 26 ∷ 27 ∷ 28 ∷ 29 ∷ 30 ∷ 31 ∷ 32 ∷ 33 ∷ 34 ∷ 35 ∷ 36 ∷ 37 ∷ 38 ∷ 2 ∷ 0 ∷ 4 ∷
-            3 ∷ []) $
+        3 ∷ []) $
         calls N′.mir P′.mir l₀ l₁ l₂ l₃ l₄ l₅ l₆ l₇ l₈ l₉ l₁₀ l₁₁ l₁₂ l₁₃ l₁₄ l₁₅ l₁₆)))))))))))))))))
 
 module _ {M : Type 1} (𝓤 : URA M) (H : Heap 𝓤) (A : Atoms 𝓤) (W : Given 𝓤 H A) (mem : Memory → SProp 𝓤) (run : Routine → Fun 𝓤) (𝓣 : Tables 𝓤 H)
@@ -359,8 +370,19 @@ module _ {M : Type 1} (𝓤 : URA M) (H : Heap 𝓤) (A : Atoms 𝓤) (W : Given
   walks : Walks 𝓤 H A f.ended stayed (WpFn 𝓤 H (𝓣 .C) (𝓣 .Λ) code.function) (f.clauses 𝓤 H A mem run)
   walks = walked 𝓤 H A f.ended stayed (f.clauses 𝓤 H A mem run) (WpFn 𝓤 H (𝓣 .C) (𝓣 .Λ) code.function)
       (λ κs. (LL.vals N.the-type N′.the-laws, (LL.vals P.the-type P′.the-laws, (float-vals binary64, (LL.vals S.the-type S′.the-laws, (uint-vals w64, (slice-vals, (slice-vals, tt))))))))
-      (λ κs. (LL.tells N.the-type N′.the-laws, (LL.tells P.the-type P′.the-laws, (float-tells binary64, (LL.tells S.the-type S′.the-laws,
-      (uint-tells w64, (mut-slice-tells (named 0) (κs .0) f64, (mut-slice-tells (named 1) (κs .1 .0) f64, tt))))))))
+      (λ κs. (
+        LL.tells N.the-type N′.the-laws,
+        (
+          LL.tells P.the-type P′.the-laws,
+          (
+            float-tells binary64,
+            (
+              LL.tells S.the-type S′.the-laws,
+              (uint-tells w64, (mut-slice-tells (named 0) (κs .0) f64, (mut-slice-tells (named 1) (κs .1 .0) f64, tt))),
+            ),
+          ),
+        ),
+      ))
       (λ κs qs bounds a g are. needs 𝓤 (a .1 .1 .1 .1 .0 ≤ 257) _ (λ few.
       walk 𝓤 H A W mem run (κs .0) (κs .1 .0) (qs .0) (qs .1 .0) (a .0) (a .1 .0) (a .1 .1 .0) (a .1 .1 .1 .0) (a .1 .1 .1 .1 .0) (a .1 .1 .1 .1 .1 .0) (a .1 .1 .1 .1 .1 .1 .0)
       (LL.val N.the-type N′.the-laws (a .0)) (LL.val P.the-type P′.the-laws (a .1 .0)) _ (LL.val S.the-type S′.the-laws (a .1 .1 .1 .0))
@@ -368,10 +390,22 @@ module _ {M : Type 1} (𝓤 : URA M) (H : Heap 𝓤) (A : Atoms 𝓤) (W : Given
       (𝓣 .C) (𝓣 .Λ) (fmOf 𝓤 H (W .laws) 𝓣) known))
 
   meets : Meets 𝓤 H A f.signature (WpFn 𝓤 H (𝓣 .C) (𝓣 .Λ) code.function) (f.spec 𝓤 H A mem run)
-  meets = walk-meets 𝓤 H A f.ended stayed W
-      (goes-none 𝓤 H A W 2 (λ _. N.the-row) yes (λ κs x f. refl), (goes-none 𝓤 H A W 2 (λ _. P.the-row) yes (λ κs x f. refl), (goes-none 𝓤 H A W 2 (λ _. f64) yes (λ κs x f. refl),
-      (goes-none 𝓤 H A W 2 (λ _. S.the-row) yes (λ κs x f. refl), (goes-none 𝓤 H A W 2 (λ _. usize) yes (λ κs x f. refl),
-      (goes-gave-slice 𝓤 H A W 2 0 tt (plain (λ _. f64)), (goes-gave-slice 𝓤 H A W 2 1 tt (plain (λ _. f64)), tt)))))))
+  meets = walk-meets 𝓤 H A f.ended stayed W (
+    goes-none 𝓤 H A W 2 (λ _. N.the-row) yes (λ κs x f. refl),
+    (
+      goes-none 𝓤 H A W 2 (λ _. P.the-row) yes (λ κs x f. refl),
+      (
+        goes-none 𝓤 H A W 2 (λ _. f64) yes (λ κs x f. refl),
+        (
+          goes-none 𝓤 H A W 2 (λ _. S.the-row) yes (λ κs x f. refl),
+          (
+            goes-none 𝓤 H A W 2 (λ _. usize) yes (λ κs x f. refl),
+            (goes-gave-slice 𝓤 H A W 2 0 tt (plain (λ _. f64)), (goes-gave-slice 𝓤 H A W 2 1 tt (plain (λ _. f64)), tt)),
+          ),
+        ),
+      ),
+    ),
+  )
       (f.clauses 𝓤 H A mem run) (WpFn 𝓤 H (𝓣 .C) (𝓣 .Λ) code.function) (WpFn-mono 𝓤 H (W .laws) 𝓣 code.function) walks
 
 pub called-records-spec : {M : Type 1} → stated.statement M

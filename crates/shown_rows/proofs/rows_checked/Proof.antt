@@ -29,7 +29,7 @@ mul-columns : tie.Need-mul-columns
 mul-columns c =
     let s = c .before .before .before .before .before .before .before .args in
     let a = call-accepted (s .m) (c .before .before .before .before .before .fits2 .result) true true
-        (sym (c .before .before .before .before .call-checked .ensures) ∙ c .before .before .enum-told .given .1) in
+    (sym (c .before .before .before .before .call-checked .ensures) ∙ c .before .before .enum-told .given .1) in
     let p = columns-small (s .m) (c .before .bound-of .result) (a .0) (c .before .bound-of .ensures .1) in
     omega arith
 
@@ -37,7 +37,7 @@ returns : tie.Need-returns
 returns c =
     let s = c .before .before .before .before .before .before .before .before .args in
     let e = ap (λ f. callChecked (s .m) f true true) (sym (c .before .before .before .before .before .before .fits2 .ensures))
-        ∙ sym (c .before .before .before .before .before .call-checked .ensures) ∙ c .before .before .before .enum-told .given .1 in
+    ∙ sym (c .before .before .before .before .before .call-checked .ensures) ∙ c .before .before .before .enum-told .given .1 in
     let r = room-is (s .m) (s .places) (s .values) (s .grad) (s .slip) (c .before .before .bound-of .ensures .0) (c .if1 .taken) in
     sym (all-accepted (s .m) (s .q) (s .places) (s .values) (s .grad) (s .slip) e r)
 
@@ -51,7 +51,7 @@ returns-3 : tie.Need-returns-3
 returns-3 c =
     let s = c .before .before .before .before .before .before .before .before .args in
     let e = ap (λ f. callChecked (s .m) f true true) (sym (c .before .before .before .before .before .before .fits2 .ensures))
-        ∙ sym (c .before .before .before .before .before .call-checked .ensures) ∙ c .before .before .before .enum-told .given .1 in
+    ∙ sym (c .before .before .before .before .before .call-checked .ensures) ∙ c .before .before .before .enum-told .given .1 in
     let r = room-is (s .m) (s .places) (s .values) (s .grad) (s .slip) (c .before .before .bound-of .ensures .0) (c .if1 .left) in
     sym (too-few (s .m) (s .q) (s .places) (s .values) (s .grad) (s .slip) e r)
 

@@ -23,7 +23,7 @@ put-rows-requires : tie.Need-put-rows-requires
 put-rows-requires c κs =
     let s = c .before .before .before .before .before .before .before .before .before .args in
     let a = call-accepted (s .m) (poseFits (s .m .bodies) (s .q)) true _
-        (sym (c .before .before .before .before .before .before .rows-checked .ensures) ∙ c .before .before .before .before .enum-told .given .1) in
+    (sym (c .before .before .before .before .before .before .rows-checked .ensures) ∙ c .before .before .before .before .enum-told .given .1) in
     (a .0, has-room (s .m) (s .places .now) (s .values .now) (s .grad .now) (s .slip .now) (a .3))
 
 returns : tie.Need-returns
