@@ -327,7 +327,7 @@ fn first<'a>(parts: &'a [PartRow], n: usize) -> &'a [PartRow] {
 }
 
 // Prepares the description, which is accepted, in arrays that were prepared for another one, and reads it.
-fn print_prepared(before: Mechanism, m: Mechanism, margin: f64, q: &[Lent]) {
+fn print_prepared(largest: Mechanism, m: Mechanism, margin: f64, q: &[Lent]) {
     let mut drawn = [[0.0; 2]; 6144];
     let mut sampled = [[0.0; 2]; 13056];
     let mut parts = [[0usize; 5]; 32];
@@ -338,25 +338,32 @@ fn print_prepared(before: Mechanism, m: Mechanism, margin: f64, q: &[Lent]) {
     let mut sides = [[0usize; 7]; 32];
     let mut centers = [[0.0; 2]; 32];
     let mut choices = [[0u8; 32]; 64];
-    let mut d = before;
-    let mut turn: usize = 0;
-    while turn < 2 {
-        tables::prepare(
-            d,
-            &mut drawn,
-            &mut sampled,
-            &mut parts,
-            &mut faces,
-            &mut fnames,
-            &mut discs,
-            &mut dnames,
-            &mut sides,
-            &mut centers,
-            &mut choices,
-        );
-        d = m;
-        turn += 1;
-    }
+    tables::prepare(
+        largest,
+        &mut drawn,
+        &mut sampled,
+        &mut parts,
+        &mut faces,
+        &mut fnames,
+        &mut discs,
+        &mut dnames,
+        &mut sides,
+        &mut centers,
+        &mut choices,
+    );
+    tables::prepare(
+        m,
+        &mut drawn,
+        &mut sampled,
+        &mut parts,
+        &mut faces,
+        &mut fnames,
+        &mut discs,
+        &mut dnames,
+        &mut sides,
+        &mut centers,
+        &mut choices,
+    );
     let bodies = m.bodies;
     let ps = m.parts;
     let pairs = m.pairs;
@@ -387,18 +394,18 @@ fn first_entries<'a>(q: &'a [Lent], n: usize) -> &'a [Lent] {
 }
 
 // Of two descriptions the second, where it has no fewer segments.
-fn larger(before: Mechanism, m: Mechanism) -> Mechanism {
-    let p = before.parts;
+fn larger(largest: Mechanism, m: Mechanism) -> Mechanism {
+    let p = largest.parts;
     let q = m.parts;
     if segs_counted(q) < segs_counted(p) {
-        before
+        largest
     } else {
         m
     }
 }
 
-// Answers a text, and gives the description for which the arrays are prepared before the next.
-fn answer(before: Mechanism, text: &[u8]) -> Mechanism {
+// Answers a text, and gives the largest description so far.
+fn answer(largest: Mechanism, text: &[u8]) -> Mechanism {
     let s = sheet::read(text);
     let m = s.mechanism;
     let e = s.entries;
@@ -407,16 +414,16 @@ fn answer(before: Mechanism, text: &[u8]) -> Mechanism {
     match c {
         Checked::Accepted => {
             print_prepared(
-                before,
+                largest,
                 m,
                 s.margin,
                 first_entries(&sheet::posed::lent(e), n),
             );
-            larger(before, m)
+            larger(largest, m)
         }
         Checked::Refused(p) => {
             print_problem(p);
-            before
+            largest
         }
     }
 }
@@ -429,26 +436,26 @@ fn fill(buf: &mut [u8], n: usize) {
 }
 
 // Answers the text of the first n bytes.
-fn answer_first(before: Mechanism, buf: &[u8], n: usize) -> Mechanism {
+fn answer_first(largest: Mechanism, buf: &[u8], n: usize) -> Mechanism {
     if n <= buf.len() {
-        return answer(before, &buf[..n]);
+        return answer(largest, &buf[..n]);
     }
-    before
+    largest
 }
 
-// Whether there was one more text, and the description for the next.
+// Whether there was one more text, and the largest description so far.
 struct Turn {
     more: bool,
-    before: Mechanism,
+    largest: Mechanism,
 }
 
 // Reads and answers a text.
-fn next(before: Mechanism) -> Turn {
+fn next(largest: Mechanism) -> Turn {
     let mut head = [0u8; 7];
     if io::read_full(0, &mut head) < 7 {
         return Turn {
             more: false,
-            before,
+            largest,
         };
     }
     let n = length_of(head);
@@ -456,20 +463,20 @@ fn next(before: Mechanism) -> Turn {
     fill(&mut buf, n);
     Turn {
         more: true,
-        before: answer_first(before, &buf, n),
+        largest: answer_first(largest, &buf, n),
     }
 }
 
 fn main() {
     let s = sheet::read(b"");
-    let mut before = s.mechanism;
+    let mut largest = s.mechanism;
     let mut turns = 1000000u64;
     while turns > 0 {
-        let t = next(before);
+        let t = next(largest);
         if !t.more {
             return;
         }
-        before = t.before;
+        largest = t.largest;
         turns -= 1;
     }
 }

@@ -17,6 +17,7 @@ use overlap::prepared::pair_overlap;
 use prepared_rows::rows_in;
 use reading::prepared::read_in;
 use sheet::Entries;
+use sheet::posed::LentEntries;
 
 fn print_checked(c: Checked) {
     match c {
@@ -169,9 +170,9 @@ fn print_calls(b: Bodies, q: &[Lent], placed: Pose) {
 }
 
 // The same with all sixteen entries, and with fifteen and a pose of no bodies.
-fn print_both(b: Bodies, q: &[Lent; 16], placed: Pose) {
+fn print_both(b: Bodies, q: LentEntries, placed: Pose) {
     let placement = placed.placement;
-    print_calls(b, q, placed);
+    print_calls(b, &q, placed);
     print_calls(
         b,
         &q[..15],
@@ -192,10 +193,10 @@ fn answer(m: Mechanism, e: Entries) {
     let p = b.pose(&q);
     let placed = p.pose;
     let nan = 0.0 / 0.0;
-    print_both(b, &q, placed);
-    print_both(with_slide(b, 0, 0.0, 0.0), &q, placed);
-    print_both(with_slide(b, 0, nan, 0.0), &q, placed);
-    print_both(with_slide(b, 1, 0.0, 0.0), &q, placed);
+    print_both(b, q, placed);
+    print_both(with_slide(b, 0, 0.0, 0.0), q, placed);
+    print_both(with_slide(b, 0, nan, 0.0), q, placed);
+    print_both(with_slide(b, 1, 0.0, 0.0), q, placed);
 }
 
 fn main() {

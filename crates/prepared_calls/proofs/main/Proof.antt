@@ -5,10 +5,13 @@ use Rattle.prepared_calls.proofs.main.Statement.{statement}
 use Rattle.prepared_calls.proofs.main.Tie as tie
 
 abbrev Inv-loop : tie.InvT-loop
-Inv-loop turns₀ turns = turns ≤ 1000000
+Inv-loop largest₀ turns₀ largest turns = turns ≤ 1000000
 
 abbrev μ-loop : tie.MeasureT-loop
-μ-loop turns₀ turns = turns
+μ-loop largest₀ turns₀ largest turns = turns
+
+read-requires : tie.Need-read-requires Inv-loop μ-loop
+read-requires c κs = search needs
 
 loop-holds : tie.Need-loop-holds Inv-loop μ-loop
 loop-holds c = omega arith
@@ -37,6 +40,7 @@ main-spec =
     (tie.spec
     Inv-loop
     μ-loop
+    read-requires
     loop-holds
     next-requires
     returns
