@@ -1,4 +1,5 @@
 use native.Mathlib.Omega.{arith}
+use mathlib.Core.Path.{refl}
 use borrow.Author.Needs.{needs}
 use Prim.Native.Nat.{_-_, _≤_}
 use Rattle.prepared_calls.proofs.main.Statement.{statement}
@@ -9,6 +10,9 @@ Inv-loop largest₀ turns₀ largest turns = turns ≤ 1000000
 
 abbrev μ-loop : tie.MeasureT-loop
 μ-loop largest₀ turns₀ largest turns = turns
+
+slice-aggregate-read : tie.Need-slice-aggregate-read Inv-loop μ-loop
+slice-aggregate-read c = refl
 
 read-requires : tie.Need-read-requires Inv-loop μ-loop
 read-requires c κs = search needs
@@ -40,6 +44,7 @@ main-spec =
     (tie.spec
     Inv-loop
     μ-loop
+    slice-aggregate-read
     read-requires
     loop-holds
     next-requires

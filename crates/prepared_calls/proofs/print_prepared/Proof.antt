@@ -26,72 +26,82 @@ prepare-requires-2 c κs = search needs
 slice-aggregate-print-reading : tie.Need-slice-aggregate-print-reading
 slice-aggregate-print-reading c =
     let k = c .before .before .before .before in
-    let a = k .before .before .before .before .before .before .before .before .before .before .before .before .args in
+    let p = k .before .before .before .before .before .before .before .before .before .before .before in
+    let a = p .before .before .before .before .before .before .before .before .before .before .before .args in
     sym (ap length (k .prepare2 .ensures .1 .1 .0 .0) ∙ as-long (checkOf (a .m)) _ (faceTable (a .m))
-    ∙ ap length (k .before .prepare .ensures .1 .1 .0 .0) ∙ as-long (checkOf (a .largest)) (replicate 384 (replicate 6 zeroF)) (faceTable (a .largest)) ∙ length-replicate 384 (replicate 6 zeroF))
+    ∙ ap length (p .prepare .ensures .1 .1 .0 .0) ∙ as-long (checkOf (a .largest)) (replicate 384 (replicate 6 zeroF)) (faceTable (a .largest)) ∙ length-replicate 384 (replicate 6 zeroF))
 
 slice-aggregate-print-reading-2 : tie.Need-slice-aggregate-print-reading-2
 slice-aggregate-print-reading-2 c =
     let k = c .before .before .before .before .before in
-    let a = k .before .before .before .before .before .before .before .before .before .before .before .before .args in
+    let p = k .before .before .before .before .before .before .before .before .before .before .before in
+    let a = p .before .before .before .before .before .before .before .before .before .before .before .args in
     sym (ap length (k .prepare2 .ensures .1 .1 .0 .1) ∙ as-long (checkOf (a .m)) _ (faceNameTable (a .m))
-    ∙ ap length (k .before .prepare .ensures .1 .1 .0 .1) ∙ as-long (checkOf (a .largest)) (replicate 384 (replicate {A = ℕ} 3 0)) (faceNameTable (a .largest)) ∙ length-replicate 384 (replicate {A = ℕ} 3 0))
+    ∙ ap length (p .prepare .ensures .1 .1 .0 .1) ∙ as-long (checkOf (a .largest)) (replicate 384 (replicate {A = ℕ} 3 0)) (faceNameTable (a .largest)) ∙ length-replicate 384 (replicate {A = ℕ} 3 0))
 
 slice-aggregate-print-reading-3 : tie.Need-slice-aggregate-print-reading-3
 slice-aggregate-print-reading-3 c =
     let k = c .before .before .before .before .before .before in
-    let a = k .before .before .before .before .before .before .before .before .before .before .before .before .args in
+    let p = k .before .before .before .before .before .before .before .before .before .before .before in
+    let a = p .before .before .before .before .before .before .before .before .before .before .before .args in
     sym (ap length (k .prepare2 .ensures .1 .1 .0 .2) ∙ as-long (checkOf (a .m)) _ (discTable (a .m))
-    ∙ ap length (k .before .prepare .ensures .1 .1 .0 .2) ∙ as-long (checkOf (a .largest)) (replicate 896 (replicate 7 zeroF)) (discTable (a .largest)) ∙ length-replicate 896 (replicate 7 zeroF))
+    ∙ ap length (p .prepare .ensures .1 .1 .0 .2) ∙ as-long (checkOf (a .largest)) (replicate 896 (replicate 7 zeroF)) (discTable (a .largest)) ∙ length-replicate 896 (replicate 7 zeroF))
 
 slice-aggregate-print-reading-4 : tie.Need-slice-aggregate-print-reading-4
 slice-aggregate-print-reading-4 c =
     let k = c .before .before .before .before .before .before .before in
-    let a = k .before .before .before .before .before .before .before .before .before .before .before .before .args in
+    let p = k .before .before .before .before .before .before .before .before .before .before .before in
+    let a = p .before .before .before .before .before .before .before .before .before .before .before .args in
     sym (ap length (k .prepare2 .ensures .1 .1 .0 .3) ∙ as-long (checkOf (a .m)) _ (discNameTable (a .m))
-    ∙ ap length (k .before .prepare .ensures .1 .1 .0 .3) ∙ as-long (checkOf (a .largest)) (replicate 896 (replicate {A = ℕ} 3 0)) (discNameTable (a .largest)) ∙ length-replicate 896 (replicate {A = ℕ} 3 0))
+    ∙ ap length (p .prepare .ensures .1 .1 .0 .3) ∙ as-long (checkOf (a .largest)) (replicate 896 (replicate {A = ℕ} 3 0)) (discNameTable (a .largest)) ∙ length-replicate 896 (replicate {A = ℕ} 3 0))
 
 slice-aggregate-print-reading-5 : tie.Need-slice-aggregate-print-reading-5
 slice-aggregate-print-reading-5 c =
     let k = c .before .before .before .before .before .before .before .before in
-    let a = k .before .before .before .before .before .before .before .before .before .before .before .before .args in
+    let p = k .before .before .before .before .before .before .before .before .before .before .before in
+    let a = p .before .before .before .before .before .before .before .before .before .before .before .args in
     sym (ap length (k .prepare2 .ensures .1 .1 .1 .0) ∙ as-long (checkOf (a .m)) _ (sideTable (a .m))
-    ∙ ap length (k .before .prepare .ensures .1 .1 .1 .0) ∙ as-long (checkOf (a .largest)) (replicate 32 (replicate {A = ℕ} 7 0)) (sideTable (a .largest)) ∙ length-replicate 32 (replicate {A = ℕ} 7 0))
+    ∙ ap length (p .prepare .ensures .1 .1 .1 .0) ∙ as-long (checkOf (a .largest)) (replicate 32 (replicate {A = ℕ} 7 0)) (sideTable (a .largest)) ∙ length-replicate 32 (replicate {A = ℕ} 7 0))
 
 slice-aggregate-print-reading-6 : tie.Need-slice-aggregate-print-reading-6
 slice-aggregate-print-reading-6 c =
     let k = c .before .before .before .before .before .before .before .before .before in
-    let a = k .before .before .before .before .before .before .before .before .before .before .before .before .args in
+    let p = k .before .before .before .before .before .before .before .before .before .before .before in
+    let a = p .before .before .before .before .before .before .before .before .before .before .before .args in
     sym (ap length (k .prepare2 .ensures .1 .1 .1 .1) ∙ as-long (checkOf (a .m)) _ (centerTable (a .m))
-    ∙ ap length (k .before .prepare .ensures .1 .1 .1 .1) ∙ as-long (checkOf (a .largest)) (replicate 32 (replicate 2 zeroF)) (centerTable (a .largest)) ∙ length-replicate 32 (replicate 2 zeroF))
+    ∙ ap length (p .prepare .ensures .1 .1 .1 .1) ∙ as-long (checkOf (a .largest)) (replicate 32 (replicate 2 zeroF)) (centerTable (a .largest)) ∙ length-replicate 32 (replicate 2 zeroF))
 
 slice-aggregate-print-reading-7 : tie.Need-slice-aggregate-print-reading-7
 slice-aggregate-print-reading-7 c =
     let k = c .before .before .before .before .before .before .before .before .before .before in
-    let a = k .before .before .before .before .before .before .before .before .before .before .before .before .args in
+    let p = k .before .before .before .before .before .before .before .before .before .before .before in
+    let a = p .before .before .before .before .before .before .before .before .before .before .before .args in
     sym (ap length (k .prepare2 .ensures .1 .1 .1 .2) ∙ as-long (checkOf (a .m)) _ (choiceTable (a .m))
-    ∙ ap length (k .before .prepare .ensures .1 .1 .1 .2) ∙ as-long (checkOf (a .largest)) (replicate 64 (replicate {A = ℕ} 32 0)) (choiceTable (a .largest)) ∙ length-replicate 64 (replicate {A = ℕ} 32 0))
+    ∙ ap length (p .prepare .ensures .1 .1 .1 .2) ∙ as-long (checkOf (a .largest)) (replicate 64 (replicate {A = ℕ} 32 0)) (choiceTable (a .largest)) ∙ length-replicate 64 (replicate {A = ℕ} 32 0))
 
 slice-aggregate-print-reading-8 : tie.Need-slice-aggregate-print-reading-8
 slice-aggregate-print-reading-8 c =
     let k = c .before .before .before .before .before .before .before .before .before .before .before in
-    let a = k .before .before .before .before .before .before .before .before .before .before .before .before .args in
+    let p = k .before .before .before .before .before .before .before .before .before .before .before in
+    let a = p .before .before .before .before .before .before .before .before .before .before .before .args in
     sym (ap length (k .prepare2 .ensures .1 .0 .0) ∙ as-long (checkOf (a .m)) _ (drawnTable (a .m .parts) (a .m .outlines))
-    ∙ ap length (k .before .prepare .ensures .1 .0 .0) ∙ as-long (checkOf (a .largest)) (replicate 6144 (replicate 2 zeroF)) (drawnTable (a .largest .parts) (a .largest .outlines)) ∙ length-replicate 6144 (replicate 2 zeroF))
+    ∙ ap length (p .prepare .ensures .1 .0 .0) ∙ as-long (checkOf (a .largest)) (replicate 6144 (replicate 2 zeroF)) (drawnTable (a .largest .parts) (a .largest .outlines)) ∙ length-replicate 6144 (replicate 2 zeroF))
 
 slice-aggregate-print-reading-9 : tie.Need-slice-aggregate-print-reading-9
 slice-aggregate-print-reading-9 c =
     let k = c .before .before .before .before .before .before .before .before .before .before .before .before in
-    let a = k .before .before .before .before .before .before .before .before .before .before .before .before .args in
+    let p = k .before .before .before .before .before .before .before .before .before .before .before in
+    let a = p .before .before .before .before .before .before .before .before .before .before .before .args in
     sym (ap length (k .prepare2 .ensures .1 .0 .1) ∙ as-long (checkOf (a .m)) _ (sampledTable (a .m .parts) (a .m .outlines))
-    ∙ ap length (k .before .prepare .ensures .1 .0 .1) ∙ as-long (checkOf (a .largest)) (replicate 13056 (replicate 2 zeroF)) (sampledTable (a .largest .parts) (a .largest .outlines)) ∙ length-replicate 13056 (replicate 2 zeroF))
+    ∙ ap length (p .prepare .ensures .1 .0 .1) ∙ as-long (checkOf (a .largest)) (replicate 13056 (replicate 2 zeroF)) (sampledTable (a .largest .parts) (a .largest .outlines)) ∙ length-replicate 13056 (replicate 2 zeroF))
 
 slice-aggregate-first : tie.Need-slice-aggregate-first
 slice-aggregate-first c =
     let k = c .before .before .before .before .before .before .before .before .before .before .before .before .before in
-    let a = k .before .before .before .before .before .before .before .before .before .before .before .before .args in
+    let p = k .before .before .before .before .before .before .before .before .before .before .before in
+    let a = p .before .before .before .before .before .before .before .before .before .before .before .args in
     sym (ap length (k .prepare2 .ensures .1 .0 .2) ∙ as-long (checkOf (a .m)) _ (partTable (a .m .parts) (a .m .outlines))
-    ∙ ap length (k .before .prepare .ensures .1 .0 .2) ∙ as-long (checkOf (a .largest)) (replicate 32 (replicate {A = ℕ} 5 0)) (partTable (a .largest .parts) (a .largest .outlines)) ∙ length-replicate 32 (replicate {A = ℕ} 5 0))
+    ∙ ap length (p .prepare .ensures .1 .0 .2) ∙ as-long (checkOf (a .largest)) (replicate 32 (replicate {A = ℕ} 5 0)) (partTable (a .largest .parts) (a .largest .outlines)) ∙ length-replicate 32 (replicate {A = ℕ} 5 0))
 
 first-requires : tie.Need-first-requires
 first-requires c κs = search needs
