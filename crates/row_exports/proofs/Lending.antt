@@ -1,5 +1,6 @@
 -- The first n rows of records in a local, lent for a lifetime κ, and the local again when κ is over.
 --     lends-first, first-back          of rows side by side in memory, of any type: the first n are lent, and come back
+--     array-out                        an array of records in a local is its rows side by side
 --     rows-out, rows-in                records in a local are their rows side by side; and once those are there again, the local is room
 --     lends-records, records-back      both: the records are lent as a `&κ [Row]` on the first n, and the local is room again
 -- Assumes `Given`.
@@ -33,6 +34,7 @@ use denote.Lend.{lends-shr-slice}
 use denote.Index.{row, whole-out, whole-in}
 use denote.Steps.{only, owned, peeks}
 use denote.Struct.Laws as LL
+use Rattle.mechanism.specs.declared.rows.Row.{Row}
 use Rattle.mechanism.proofs.rows.Row as T
 use Rattle.mechanism.proofs.rows.Row.Laws as T′
 use Rattle.row_exports.specs.declared.Records.{Records}
@@ -70,11 +72,21 @@ module _ (R : RattleType) (κ : Lft) (xs : List (R .Denot)) (n b o : ℕ) where
         rewrite ! 0 (λ (l : List (R .Denot)). ‵ (cells (mem R) l b o)) (take-append-drop n xs) refl $ at-once ! $ by ! (whole-out 𝓤 H A W R xs b o)
 
 -- ---- records in a local
-abbrev Rows : RattleType
+abbrev pub Rows : RattleType
 Rows = Array T.the-row 64
 
-abbrev rowsTy : Ty
+abbrev pub rowsTy : Ty
 rowsTy = tyArray T′.mir 64
+
+module _ (xs : List Row) (us : List Val) (is : Is Rows xs (arrayVal us ∷ [])) {M : Type 1} (𝓤 : URA M) (H : Heap 𝓤) (A : Atoms 𝓤) (W : Given 𝓤 H A) (b : ℕ) where
+  pub array-out : ent 𝓤 (H .at fullShare rowsTy b 0 (arrayVal us)) (sem 𝓤 H A (row T.the-row fullShare xs b 0))
+  unfolding partOf
+  array-out =
+      qed W (‵ (fat fullShare rowsTy b 0 (arrayVal us)) ∷ []) ∵
+      use1 W (‵ (cellAt fullShare (Rows .mir) (arrayVal us ∷ []) b 0)) (W .laws .at-raw fullShare rowsTy b 0 (arrayVal us)) $
+      owned ! Rows (Is Rows) (array-makes 𝓤 H A W T.the-row (LL.makes T.the-type T′.the-plain 𝓤 H A) 64) xs (arrayVal us ∷ []) is $ move ! (1 ∷ 0 ∷ []) $ fjoin ! $
+      fpack ! (List Val) (λ ws. fsep (cellAt fullShare (Rows .mir) ws b 0) (Rows .own xs ws)) (arrayVal us ∷ []) $
+      use1 W (‵ (arr-parts (shares T.the-row) 64 .part fullShare xs b 0)) (array-apart 𝓤 H A W T.the-row fullShare tt 64 xs b 0) $ fsplit ! $ drop ! $ done !
 
 each-into : {X Y : Type 0} (g : X → Y) (f : Y → List Val → Fml) (xs : List X) (us : List Val) → shadow (each Y f (map g xs) us) → shadow (each X (λ x. f (g x)) xs us)
 each-into g f [] [] s = s
@@ -84,16 +96,19 @@ each-into g f (x ∷ xs) (u ∷ us) s = (s .0, each-into g f xs us (s .1))
 
 -- the machine values of the rows, which the records' machine value holds, and that they are the rows'
 module _ (h : Records) (v : Val) (is : Is S.the-row h (v ∷ [])) where
-  abbrev us : List Val
+  abbrev pub us : List Val
   us = is .1 .1 .0 .0
 
-  v-is : v ≡ vstruct (vcons (arrayVal us) vnil)
+  abbrev pub held : Val
+  held = vstruct (vcons (arrayVal us) vnil)
+
+  pub v-is : v ≡ held
   v-is = ap only (is .1 .0) ∙ ap (λ (ws : List Val). vstruct (ofList (ws ++ []))) (is .1 .1 .0 .1 .0 .0)
 
-  rows-are : length (h .row) ≡ 64
+  pub rows-are : length (h .row) ≡ 64
   rows-are = sym (length-map (h .row) (T.the-type .to)) ∙ is .1 .1 .0 .1 .0 .1
 
-  rows-is : Is Rows (h .row) (arrayVal us ∷ [])
+  pub rows-is : Is Rows (h .row) (arrayVal us ∷ [])
   rows-is = (us, ((refl, rows-are), each-into (T.the-type .to) (T.the-field .row .own) (h .row) us (is .1 .1 .0 .1 .1)))
 
   module _ {M : Type 1} (𝓤 : URA M) (H : Heap 𝓤) (A : Atoms 𝓤) (W : Given 𝓤 H A) (b : ℕ) where
@@ -105,14 +120,10 @@ module _ (h : Records) (v : Val) (is : Is S.the-row h (v ∷ [])) where
     Back = all 𝓤 (λ (u : Val). wand 𝓤 (H .at fullShare rowsTy b 0 u) (again u))
 
     rows-out : ent 𝓤 (H .at fullShare S′.mir b 0 v) (sep 𝓤 (sem 𝓤 H A (row T.the-row fullShare (h .row) b 0)) Back)
-    unfolding partOf
     rows-out =
         qed W (‵ (fat fullShare S′.mir b 0 v) ∷ []) ∵ rewrite ! 0 (λ (w : Val). ‵ (fat fullShare S′.mir b 0 w)) v-is refl $
         use1 W (‵ (fat fullShare rowsTy b 0 (arrayVal us)) ⊛ raw Back) (W .laws .at-field fullShare (S.the-type .name) (tcons rowsTy tnil) 0 rowsTy 0 refl b 0 (vcons (arrayVal us) vnil)) $ split ! $
-        use1 W (‵ (cellAt fullShare (Rows .mir) (arrayVal us ∷ []) b 0)) (W .laws .at-raw fullShare rowsTy b 0 (arrayVal us)) $
-        owned ! Rows (Is Rows) (array-makes 𝓤 H A W T.the-row (LL.makes T.the-type T′.the-plain 𝓤 H A) 64) (h .row) (arrayVal us ∷ []) rows-is $ move ! (1 ∷ 0 ∷ []) $ fjoin ! $
-        fpack ! (List Val) (λ ws. fsep (cellAt fullShare (Rows .mir) ws b 0) (Rows .own (h .row) ws)) (arrayVal us ∷ []) $
-        use1 W (‵ (arr-parts (shares T.the-row) 64 .part fullShare (h .row) b 0)) (array-apart 𝓤 H A W T.the-row fullShare tt 64 (h .row) b 0) $ fsplit ! $ drop ! $ done !
+        use1 W (‵ (row T.the-row fullShare (h .row) b 0)) (array-out (h .row) us rows-is 𝓤 H A W b) $ done !
 
     rows-in : ent 𝓤 (sep 𝓤 (sem 𝓤 H A (row T.the-row fullShare (h .row) b 0)) Back) (H .room S′.mir b 0)
     unfolding partOf

@@ -79,19 +79,24 @@ pub struct Records {
     row: [Row; 64],
 }
 
+// Records by value, with the first n rows of numbers written over them by `row_records::records`.
+fn put_by_value(h: Records, places: &[Place], values: &[Value], n: usize) -> Records
+    requires { ⌜ (n ≤ length (now places)) × (n ≤ length (now values)) × (n ≤ 64) ⌝ }
+    ensures { λ r. ⌜ take n (r .row) ≡ recordsOf (now (places .entry)) (now (values .entry)) n ⌝ }
+{
+    let mut row = h.row;
+    row_records::records(&mut row, places, values, n);
+    Records { row }
+}
+
 // The first n rows of numbers as records.
 fn records_by_value(places: &[Place], values: &[Value], n: usize) -> Records
     requires { ⌜ (n ≤ length (now places)) × (n ≤ length (now values)) × (n ≤ 64) ⌝ }
     ensures { λ r. ⌜ take n (r .row) ≡ recordsOf (now (places .entry)) (now (values .entry)) n ⌝ }
 {
     let none = row_from([0; 7], [0.0; 5]);
-    let mut row = [none; 64];
-    let mut i: usize = 0;
-    while i < n {
-        row[i] = row_from(places[i], values[i]);
-        i += 1;
-    }
-    Records { row }
+    let h = Records { row: [none; 64] };
+    put_by_value(h, places, values, n)
 }
 
 // The governing one of the first n.
