@@ -1,4 +1,4 @@
-"""What tools/explain and tools/draw share: reading a sheet, asking for its listing, lengths in words, writing the result."""
+"""What tools/explain and tools/draw share: reading a sheet, its listing, lengths in words, writing the result."""
 import math
 import os
 import re
@@ -216,3 +216,10 @@ def length(x):
     if abs(x) < 1e-4:
         return f'{rounded(x, 6, 2)} \u00b5m'
     return f'{rounded(x, 3, 4)} mm' if abs(x) < 1e6 else f'{x:.4g} m'
+
+
+def rate(joints, x):
+    """What a coordinate does: for a hinge a degree, for a slide a millimetre, otherwise for its unit."""
+    if joints == {'R'}:
+        return f'{length(x * math.pi / 180)} a degree'
+    return f'{plain(x)} mm a mm' if joints == {'P'} else f'{plain(x)} m a unit'

@@ -1,4 +1,4 @@
-"""The refusals in words, for tools/explain and tools/draw. README.md has the same table; tools/pictures_test compares them."""
+"""The refusals in words, for tools/explain and tools/draw. README.md has the same table; tools/pictures_test compares."""
 from collections import namedtuple
 
 Refusal = namedtuple('Refusal', 'refused place')
@@ -9,7 +9,8 @@ REFUSALS = {
     2: Refusal('a line that is malformed or out of order', 'line'),
     3: Refusal('a count past its limit (docs/FORMAT.md has them)', ''),
     4: Refusal('a body whose parent is not below it, or whose coordinate is not there', 'body'),
-    5: Refusal('a slide axis or arc direction without length or of no finite one, a revolved axis that is no number', ''),
+    5: Refusal('a slide axis or arc direction without length or of no finite one, '
+               'a revolved axis that is no number', ''),
     6: Refusal('a part on no body', 'part'),
     7: Refusal('an outline that is not closed bit for bit, or not finite', 'part'),
     8: Refusal('a side without range, or with one that names no part, is empty or passes the silhouette', 'pair'),
