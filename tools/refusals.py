@@ -1,4 +1,4 @@
-"""The refusals in words, for tools/explain and tools/draw. README.md has the same table; tools/pictures_test compares."""
+"""The refusals in words, for tools/explain and tools/draw; tools/pictures_test holds README.md's table to them."""
 from collections import namedtuple
 
 Refusal = namedtuple('Refusal', 'refused place')
