@@ -3,17 +3,21 @@
 //!   readings digests       the same as one number each, as the program prepared_calls prints them
 //!   readings room          the room that `rows_in_numbers` asks for, as the program room_calls prints it
 //!   readings tally         how many accepted texts on standard input have what
+//!   readings record-frames N SEED   N frames for the program record_calls, of the texts on standard input with made-up records
+//!   readings record-answers         the original's answers to such frames on standard input, as that program prints them
+//!   readings record-tally           how many of such frames have what; status 1 where one of these things is in none
 //!   readings records SEED  built with `--cfg records`: the rows of each accepted text on standard input, and made-up ones, through the static library `row_exports`; last line 'N equal, M different', in texts
 mod checks;
 mod contact;
 mod decided;
 mod geometry;
+mod made_rows;
 mod mechanism;
+mod record_calls;
 #[cfg(records)]
 mod records;
 mod registry;
 mod sheet;
-#[cfg(records)]
 mod splitmix;
 mod text;
 
@@ -332,8 +336,13 @@ fn main() {
         ["digests"] => answers(digest),
         ["room"] => answers(room),
         ["tally"] => tally(),
+        ["record-frames", number, seed] => {
+            record_calls::print_frames(texts(), number.parse().expect("a number"), seed.parse().expect("a seed"))
+        }
+        ["record-answers"] => record_calls::print_answers(),
+        ["record-tally"] => std::process::exit(i32::from(!record_calls::print_tally())),
         #[cfg(records)]
         ["records", seed] => records(seed.parse().expect("a seed")),
-        _ => eprintln!("usage: readings answers, readings digests, readings room, readings tally"),
+        _ => eprintln!("usage: readings answers, readings digests, readings room, readings tally, readings record-frames N SEED, readings record-answers, readings record-tally"),
     }
 }
