@@ -11,7 +11,7 @@ use lib.Ieee.{Float}
 use borrow.Author.Tests.{eq-eqb, ne-eqb}
 use Rattle.laws.specs.Lists.{listIn}
 use Rattle.laws.proofs.Choice.{cond-yes, cond-no}
-use Rattle.laws.proofs.Lists.{list-get}
+use Rattle.laws.proofs.Lists.{list-get, list-length}
 use Rattle.mechanism.specs.Piece.{letterOf, isDisc, samePiece}
 use Rattle.bodies.specs.Pose.{placementAt, worldOf}
 use Rattle.mechanism.specs.declared.bearing.MaybeBearing.{MaybeBearing}
@@ -31,7 +31,7 @@ use Rattle.strips.specs.Strips.{faceAt, discAt, pieceAt, facesOfSide, discsOfSi
 use Rattle.strips.specs.declared.SideFacts.{SideFacts}
 use Rattle.strips.proofs.Bounds.{side-small}
 use Rattle.candidates.specs.Candidates.{facesIn, discsIn}
-use Rattle.faces.proofs.Rows.{length-list, take-list}
+use Rattle.faces.proofs.Rows.{take-list}
 use Rattle.governing.specs.declared.MaybeRow.{MaybeRow}
 use Rattle.governing.specs.declared.MaybeRow.the-variants.{SomeRow, NoRow}
 use Rattle.bearings.specs.Bearing.{meets, endsOf, firstOf, faceNamed, bestFace, facingOf, reachOf, towardOf, slopeBetween, bearsAs, edgeOn, stopAt, stopUnder, keyAt, cornerOn, cornerBearing, edgeBearing, bearingOf, governedBearing}
@@ -43,10 +43,10 @@ use Rattle.bearings.specs.declared.MaybePoint.the-variants.{SomePoint, N
 -- ---- a list made by an index, walked as the first n elements of an array
 module _ {A : Type 0} (f : ℕ → A) (n : ℕ) where
   pub list-long : n ≤ length (listIn f n 0)
-  list-long = let e = length-list f n 0 in omega arith
+  list-long = let e = list-length f n 0 in omega arith
 
   pub list-all : take n (listIn f n 0) ≡ listIn f n 0
-  list-all = let e = length-list f n 0 in take-all n (listIn f n 0) (omega arith)
+  list-all = let e = list-length f n 0 in take-all n (listIn f n 0) (omega arith)
 
   -- x is a part of element i as the code reads it
   pub part-read : {B : Type 0} (g : A → B) (d : A) (i : ℕ) {x : B} → i < n → x ≡ g (f i) → x ≡ g (getD (listIn f n 0) i d)

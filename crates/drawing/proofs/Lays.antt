@@ -1,5 +1,5 @@
 -- Laws of polygons drawn from prepared points, one behind the other. Assumes nothing.
-use Prim.Native.Nat.{ℕ, zero, suc, _+_, _-_, _<_, _≤_}
+use Prim.Native.Nat.{ℕ, suc, _+_, _-_, _<_, _≤_}
 use native.Mathlib.Omega.{arith}
 use native.Mathlib.Nat.{add-zero, sub-zero}
 use mathlib.Core.Path.{_≡_, refl, sym, ap, ap₂, _∙_}
@@ -13,7 +13,7 @@ use borrow.Author.Tests.{leb-true}
 use Rattle.laws.specs.Lists.{listIn, flat}
 use Rattle.laws.specs.Loops.{foldIn, filterIn, Writing}
 use Rattle.laws.proofs.Choice.{cond-yes, cond-no, both}
-use Rattle.laws.proofs.Lists.{filter-count, flat-map, flat-none, filter-within}
+use Rattle.laws.proofs.Lists.{filter-count, flat-map, flat-none, filter-within, list-length}
 use Rattle.laws.proofs.Loops.{filter-yes, filter-no, filter-done}
 use Rattle.laws.proofs.Sums.{sums-within, sum-ones}
 use Rattle.laws.proofs.Writing.{starts, puts, goes-on, appends-map, ends, ends-count}
@@ -42,11 +42,6 @@ turn-from f first n i h =
 pub done-from : {A : Type 0} (f : ℕ → A) (first n i : ℕ) → n ≤ i → listIn f (n - i) (first + i) ≡ []
 unfolding listIn
 done-from f first n i h = let e : n - i ≡ 0 = omega arith in ap (λ (k : ℕ). listIn f k (first + i)) e
-
-pub list-length : {A : Type 0} (f : ℕ → A) (n j : ℕ) → length (listIn f n j) ≡ n
-unfolding listIn
-list-length f zero j = refl
-list-length f (suc n) j = ap suc (list-length f n (suc j))
 
 -- rows of placed points
 pub row-turn : (g : Point → Point) (f : ℕ → Point) (first n i : ℕ) (p : Point) → i < n → p ≡ g (f (first + i))

@@ -9,7 +9,7 @@ use lib.Ieee.{Float}
 use Rattle.laws.specs.Lists.{listIn, foldl}
 use Rattle.laws.specs.Fill.{filled}
 use Rattle.laws.proofs.Fill.{take-filled}
-use Rattle.laws.proofs.Lists.{fold-on}
+use Rattle.laws.proofs.Lists.{fold-on, list-length}
 use Rattle.geometry.specs.declared.signed.Face.{Face}
 use Rattle.bodies.specs.Pose.{placementAt}
 use Rattle.bodies.specs.declared.pose.Pose.{Pose}
@@ -22,11 +22,6 @@ use Rattle.faces.specs.Prepared.{facesIn, faceOverlapIn}
 
 -- ---- lists made by an index
 module _ {A : Type 0} where
-  pub length-list : (f : ℕ → A) (n j : ℕ) → length (listIn f n j) ≡ n
-  unfolding listIn
-  length-list f zero j = refl
-  length-list f (suc n) j = ap suc (length-list f n (suc j))
-
   list-from-at : (f : ℕ → A) (a n j : ℕ) → listIn (λ i. f (a + i)) n j ≡ listIn f n (a + j)
   unfolding listIn
   list-from-at f a zero j = refl
@@ -42,7 +37,7 @@ module _ {A : Type 0} where
 
   -- an array that holds no more than its places, and its count
   pub take-list : (m : ℕ) (d : A) (f : ℕ → A) (n j : ℕ) → n ≤ m → take (length (listIn f n j)) (filled m d (listIn f n j)) ≡ listIn f n j
-  take-list m d f n j h = let e = length-list f n j in take-filled m d (listIn f n j) (omega arith)
+  take-list m d f n j h = let e = list-length f n j in take-filled m d (listIn f n j) (omega arith)
 
 pub map-list : {A B : Type 0} (g : A → B) (f : ℕ → A) (n j : ℕ) → map g (listIn f n j) ≡ listIn (λ i. g (f i)) n j
 unfolding listIn

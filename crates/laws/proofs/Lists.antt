@@ -48,6 +48,11 @@ list-get f d zero j i h = absurd (omega arith)
 list-get f d (suc k) j zero h = ap f (sym (add-zero j))
 list-get f d (suc k) j (suc i) h = list-get f d k (suc j) i (omega arith) ∙ ap f (suc-add j i ∙ sym (add-suc j i))
 
+pub list-length : {A : Type 0} (f : ℕ → A) (k j : ℕ) → length (listIn f k j) ≡ k
+unfolding listIn
+list-length f zero j = refl
+list-length f (suc k) j = ap suc (list-length f k (suc j))
+
 -- of a place that there is, what stands past the end is not asked
 pub getD-any : {A : Type 0} (l : List A) (i : ℕ) (d e : A) → i < length l → getD l i d ≡ getD l i e
 getD-any [] i d e h = absurd (omega arith)

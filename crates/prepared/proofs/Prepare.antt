@@ -7,7 +7,7 @@ use mathlib.Core.List.{List, [], map}
 use lib.Ieee.{Float}
 use lib.ListN.{length, take, getD, length-map}
 use Rattle.laws.specs.Lists.{flat}
-use Rattle.laws.proofs.Lists.{flat-short}
+use Rattle.laws.proofs.Lists.{flat-short, list-length}
 use Rattle.laws.proofs.Writing.{sets-taken}
 use Rattle.geometry.specs.declared.Point.{Point}
 use Rattle.bodies.specs.declared.Checked.{Checked}
@@ -17,7 +17,6 @@ use Rattle.mechanism.specs.Description.{pairAt, segsOf}
 use Rattle.mechanism.specs.declared.Mechanism.{Mechanism}
 use Rattle.mechanism.proofs.Checks.{accepted-few}
 use Rattle.drawing.specs.Drawing.{rowOf}
-use Rattle.drawing.proofs.Lays.{list-length}
 use Rattle.tables.specs.Tables.{upTo, Agrees, drawnOf, sampledOf, partTable, pairFaces, pairFaceNames, pairDiscs, pairDiscNames, pairSides, pairCenters, pairChoices, ofPair, writtenIf}
 use Rattle.tables.proofs.Known.{pair-faces, pair-face-names, pair-discs, pair-disc-names}
 use Rattle.tables.proofs.Puts.{up-within, drawn-each, sampled-each}

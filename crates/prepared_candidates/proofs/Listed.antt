@@ -8,8 +8,7 @@ use mathlib.Core.List.{List, [], _∷_, _++_, append-nil}
 use lib.Ieee.{Float}
 use lib.ListN.{length}
 use Rattle.laws.specs.Lists.{listIn, flat}
-use Rattle.laws.proofs.Lists.{flat-append, flat-short}
-use Rattle.drawing.proofs.Lays.{list-length}
+use Rattle.laws.proofs.Lists.{flat-append, flat-short, list-length}
 use Rattle.proximities.specs.declared.Candidate.{Candidate}
 use Rattle.proximities.specs.Proximities.{each, Written}
 use Rattle.proximities.proofs.Wrote.{one-more, wrote-nothing, wrote-same, wrote-both, wrote-near, wrote-named}

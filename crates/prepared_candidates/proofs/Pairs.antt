@@ -10,6 +10,7 @@ use borrow.Author.Tests.{eq-eqb, ne-eqb}
 use Rattle.laws.specs.Lists.{flat}
 use Rattle.laws.proofs.Choice.{cond-yes, cond-no}
 use Rattle.laws.proofs.Fill.{take-filled}
+use Rattle.laws.proofs.Lists.{list-length}
 use Rattle.geometry.specs.declared.Point.{Point}
 use Rattle.bodies.specs.Pose.{placementAt, worldOf}
 use Rattle.mechanism.specs.declared.features.Piece.{Piece}
@@ -23,7 +24,6 @@ use Rattle.strips.specs.declared.SideFacts.{SideFacts}
 use Rattle.strips.proofs.Bounds.{side-small}
 use Rattle.drawing.specs.Prepared.{choiceAt, materialOr}
 use Rattle.drawing.specs.declared.Chosen.{Chosen}
-use Rattle.drawing.proofs.Lays.{list-length}
 use Rattle.proximities.specs.declared.Candidate.{Candidate}
 use Rattle.proximities.specs.Proximities.{readCenter}
 use Rattle.candidates.specs.Candidates.{placeFace, placeDisc, facesIn, discsIn, candidatesIn}

@@ -9,7 +9,7 @@ use lib.Ieee.{Float}
 use lib.ListN.{length, getD, replicate, length-replicate}
 use lib.Seq.{sets, getD-take}
 use Rattle.laws.specs.Lists.{listIn, any}
-use Rattle.laws.proofs.Lists.{list-get}
+use Rattle.laws.proofs.Lists.{list-get, list-length}
 use Rattle.laws.proofs.Writing.{sets-taken}
 use Rattle.ieee.specs.Consts.{zeroF}
 use Rattle.geometry.specs.Signed.{discOnFace, centerOnFace}
@@ -23,7 +23,6 @@ use Rattle.sides.specs.declared.PlacedFace.{PlacedFace}
 use Rattle.bodies.specs.declared.pose.Placement.{Placement}
 use Rattle.material.specs.Material.{Material}
 use Rattle.strips.specs.Strips.{faceAt, discAt, pieceAt, faceFrom, discFrom, faceRow, discRow, facesFrom, discsFrom}
-use Rattle.drawing.proofs.Lays.{list-length}
 use Rattle.proximities.specs.Proximities.{worldFace, worldDisc, foundDeep}
 use Rattle.candidates.specs.Candidates.{placeFace, placeDisc, discDeep, anyDeep, centerDeep, candidatesIn}
 

@@ -12,6 +12,7 @@ use lib.Seq.{sets}
 use borrow.Author.Tests.{le-leb, ltb-false}
 use Rattle.laws.specs.Loops.{anyIn}
 use Rattle.laws.proofs.Choice.{and-yes, cond-yes}
+use Rattle.laws.proofs.Lists.{list-length}
 use Rattle.geometry.specs.Geometry.{vectorOf}
 use Rattle.bodies.specs.Check.{andThen, refusedIf, isAccepted, bodiesStand}
 use Rattle.mechanism.specs.Rows.{placeRow, valueRow}
@@ -23,7 +24,6 @@ use Rattle.bodies.specs.declared.pose.Pose.{Pose}
 use Rattle.sides.specs.declared.contacts.PairFeatures.{PairFeatures}
 use Rattle.strips.specs.Strips.{sideAt, rowA, rowB, pairIn, factsFrom}
 use Rattle.strips.specs.declared.SideFacts.{SideFacts}
-use Rattle.drawing.proofs.Lays.{list-length}
 use Rattle.proximities.specs.Proximities.{Written}
 use Rattle.candidates.specs.Candidates.{featuresCandidates, centerCandidates}
 use Rattle.prepared_candidates.specs.Prepared.{boundIn, roomForPair, candidatesFrom, materialOfSide}

@@ -10,10 +10,9 @@ use lib.Ieee.{Float}
 use Rattle.laws.specs.Fill.{filled}
 use Rattle.laws.specs.Lists.{listIn}
 use Rattle.laws.proofs.Fill.{filled-is, getD-filled}
-use Rattle.laws.proofs.Lists.{list-get}
+use Rattle.laws.proofs.Lists.{list-get, list-length}
 use Rattle.mechanism.specs.declared.Mechanism.{Mechanism}
 use Rattle.bodies.specs.declared.pose.Pose.{Pose}
-use Rattle.faces.proofs.Rows.{length-list}
 use Rattle.reading.specs.Reading.{noPairReading, pairReading, pairReadings}
 use Rattle.reading.specs.declared.PairReading.{PairReading}
 
@@ -38,12 +37,12 @@ module _ (m : Mechanism) (q : Pose) (places : List (List ℕ)) (values : List (L
 
   pub pair-there : i < m .pairs .count → getD (pairReadings m q places values n) i noPairReading ≡ pairReading m q places values n i
   pair-there h =
-      let k = length-list ofPair (m .pairs .count) 0 in
+      let k = list-length ofPair (m .pairs .count) 0 in
       getD-filled 16 noPairReading (listIn ofPair (m .pairs .count) 0) i noPairReading (omega (arith, k)) (omega (arith, k))
       ∙ list-get ofPair noPairReading (m .pairs .count) 0 i h
       ∙ ap ofPair (zero-add i)
 
   pub pair-not-there : m .pairs .count ≤ i → getD (pairReadings m q places values n) i noPairReading ≡ noPairReading
   pair-not-there h =
-      let k = length-list ofPair (m .pairs .count) 0 in
+      let k = list-length ofPair (m .pairs .count) 0 in
       past-filled 16 noPairReading (listIn ofPair (m .pairs .count) 0) i (omega (arith, k)) (omega (arith, k))

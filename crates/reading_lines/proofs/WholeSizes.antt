@@ -1,16 +1,16 @@
 -- How long a line is at most, and the whole listing of an accepted sheet. Assumes nothing.
 use Prim.Native.Nat.{ℕ, zero, suc, _+_, _*_, _/_, _≤_}
 use native.Mathlib.Omega.{arith}
-use mathlib.Core.Path.{_≡_, refl, ap}
+use mathlib.Core.Path.{_≡_, refl}
 use mathlib.Core.Bool.{Bool, true, false, _&&_, cond}
 use mathlib.Core.List.{List, [], _∷_, _++_}
 use lib.Dec.{ltb, leb}
 use lib.ListN.{length, length-append}
 use lib.Ieee.{Float}
 use borrow.Author.Tests.{leb-true}
-use Rattle.laws.specs.Lists.{flat, listIn}
+use Rattle.laws.specs.Lists.{flat}
 use Rattle.laws.proofs.Choice.{both}
-use Rattle.laws.proofs.Lists.{flat-short}
+use Rattle.laws.proofs.Lists.{flat-short, list-length}
 use Rattle.geometry.specs.Geometry.{vectorOf}
 use Rattle.bodies.specs.Pose.{poseFits}
 use Rattle.bodies.specs.declared.Bodies.{Bodies}
@@ -189,11 +189,6 @@ flat-few f g h [] = omega arith
 flat-few f g h (x ∷ l) =
     omega (arith, h x, length-append (g x) (flat g l), length-append (f x) (flat f l), flat-few f g h l)
 
-pub list-long : {A : Type 0} (f : ℕ → A) (k j : ℕ) → length (listIn f k j) ≡ k
-unfolding listIn
-list-long f zero j = refl
-list-long f (suc k) j = ap suc (list-long f k (suc j))
-
 module _ (m : Mechanism) (q : Pose) (margin : Float) (h : m .bodies .coords ≤ 16) where
   lines-few : (i : ℕ) (r : Row) → length (rowLines m q i r) ≤ 742
   lines-few i r =
@@ -217,4 +212,4 @@ module _ (m : Mechanism) (q : Pose) (margin : Float) (h : m .bodies .coords ≤ 
 pub all-fits : (m : Mechanism) (q : Pose) (margin : Float) → rowsChecked m q 256 256 4096 4096 ≡ Accepted → length (allLines m q margin) ≤ longest
 all-fits m q margin e =
     let s = accepted-small m q margin e in
-    omega (arith, s .rows, s .pairs, all-lines m q margin (s .coords), list-long (λ i. i) (m .pairs .count) 0)
+    omega (arith, s .rows, s .pairs, all-lines m q margin (s .coords), list-length (λ i. i) (m .pairs .count) 0)

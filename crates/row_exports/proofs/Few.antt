@@ -9,8 +9,8 @@ use lib.ListN.{length, take}
 use lib.Seq.{sets}
 use lib.Ieee.{Float}
 use borrow.Author.Tests.{ltb-false}
-use Rattle.faces.proofs.Rows.{length-list}
 use Rattle.laws.proofs.Writing.{sets-taken}
+use Rattle.laws.proofs.Lists.{list-length}
 use Rattle.bodies.specs.declared.pose.Posed.{Posed}
 use Rattle.mechanism.specs.declared.rows.Row.{Row}
 use Rattle.sheet.specs.Posed.{poseOf}
@@ -54,7 +54,7 @@ module _ (places : List (List ℕ)) (values : List (List Float)) (n : ℕ) (rows
 
   pub put-taken : {zs : List Row} → zs ≡ sets rows 0 (recordsOf places values (recordsFit n (length places) (length values) (length rows))) → take n zs ≡ recordsOf places values n
   put-taken e =
-      let l = length-list (rowAt places values) n 0 in
+      let l = list-length (rowAt places values) n 0 in
       ap (take n) (e ∙ ap (λ (k : ℕ). sets rows 0 (recordsOf places values k)) fit-all) ∙ sets-taken (recordsOf places values n) rows n l (omega (arith, l, c))
 
 -- ---- the bearing: s is the sheet that the text says, q its pose, `rows` the records, a the answer and k its numbers

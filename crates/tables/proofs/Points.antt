@@ -13,7 +13,7 @@ use borrow.Author.Tests.{ltb-false, le-leb}
 use Rattle.laws.specs.Lists.{listIn, flat}
 use Rattle.laws.specs.Loops.{filterIn}
 use Rattle.laws.proofs.Choice.{cond-yes}
-use Rattle.laws.proofs.Lists.{getD-any, list-get, list-as}
+use Rattle.laws.proofs.Lists.{getD-any, list-get, list-as, list-length}
 use Rattle.laws.proofs.Sums.{sum-same, sum-scaled}
 use Rattle.laws.proofs.Writing.{sets-taken}
 use Rattle.geometry.specs.declared.Point.{Point}
@@ -33,7 +33,6 @@ use Rattle.drawing.specs.Prepared.{partsIn, drawnIn, allDrawn, polygonIn, mater
 use Rattle.drawing.specs.Samples.{mouthsOf, samplesOf, partSamples}
 use Rattle.drawing.specs.declared.Chosen.{Chosen}
 use Rattle.drawing.proofs.Laid.{side-chosen}
-use Rattle.drawing.proofs.Lays.{list-length}
 use Rattle.tables.specs.Tables.{upTo, Agrees, drawnOf, sampledOf, drawnUpTo, sampledUpTo, partRow, drawnTable, sampledTable, partTable}
 use Rattle.tables.proofs.Puts.{flat-parts, drawn-each, drawn-752, sampled-1598, drawn-start, sampled-start}
 

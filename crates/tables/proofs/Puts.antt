@@ -11,7 +11,7 @@ use lib.ListN.{length, getD, set, length-map, length-append}
 use lib.Seq.{sets, length-sets}
 use Rattle.laws.specs.Lists.{listIn, flat}
 use Rattle.laws.proofs.Choice.{cond-yes, cond-no}
-use Rattle.laws.proofs.Lists.{list-turn, flat-append, flat-short}
+use Rattle.laws.proofs.Lists.{list-turn, flat-append, flat-short, list-length}
 use Rattle.laws.proofs.Sums.{sum-more}
 use Rattle.laws.proofs.Writing.{sets-append}
 use Rattle.geometry.specs.declared.Dir.{Dir}
@@ -30,7 +30,6 @@ use Rattle.drawing.specs.Drawing.{isSampled, drawnPoints, rowOf}
 use Rattle.drawing.specs.Samples.{onLine, samplePoints, mouthsOf, samplesOf}
 use Rattle.drawing.proofs.Segments.{Places, places-more, places-end, drawn-short, silhouette-short, silhouette-94, part-within, part-counted}
 use Rattle.drawing.proofs.Mouths.{of-line, of-arc, samples-short}
-use Rattle.drawing.proofs.Lays.{list-length}
 use Rattle.tables.specs.Tables.{upTo, drawnOf, sampledOf, drawnUpTo, sampledUpTo, partRow, drawnTable, sampledTable, partTable}
 use Rattle.tables.specs.declared.Next.{Next}
 
