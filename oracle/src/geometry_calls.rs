@@ -1,16 +1,20 @@
-// Calls of the geometry on chosen and random arguments.
-//   geometry_calls compare N SEED   the proved functions against the Rust's, N random calls of each; last line 'N equal, M different'
+// Calls of the geometry and of the polygon test on chosen and random arguments.
+//   geometry_calls compare N SEED   the proved functions of the geometry against the Rust's, N random calls of each; last line 'N equal, M different'
 //   geometry_calls sample N SEED    calls as the program geometry_calls reads them, on standard output
 //   geometry_calls answers          the Rust's answers to the calls on standard input, as that program prints them
 #[path = "../target/geometry/mod.rs"]
 #[allow(dead_code)]
 mod geometry;
+mod polygons;
 mod splitmix;
 
 use geometry::signed::in_sector;
 use geometry::{center_on_face, disc_on_disc, disc_on_face, Dir, Disc, Face, Point, Proximity, Seg};
 use splitmix::Random;
 use std::io::{BufRead, Write};
+
+// The Rust's polygon test, `inside`.
+include!("../target/geometry/inside.rs");
 
 extern "C" {
     fn sewqirun_dir(n: u64, x: f64, y: f64) -> f64;
@@ -179,6 +183,10 @@ fn rust(letter: u8, x: &[f64]) -> Option<Option<Vec<f64>>> {
         b'F' => of_proximity(disc_on_face(&disc(x)?, &face(&x[7..])?)),
         b'B' => of_proximity(disc_on_disc(&disc(x)?, &disc(&x[7..])?)),
         b'C' => of_proximity(center_on_face(point(x), &face(&x[2..])?)),
+        b'0'..=b'6' => {
+            let corners: Vec<Point> = x[2..].chunks(2).map(point).collect();
+            Some(vec![if inside(&corners, point(x)) { 1.0 } else { 0.0 }])
+        }
         b'P' => {
             let p = Proximity { gap: x[0], normal: dir(&x[1..])?, point: point(&x[3..]) };
             let mut out = of_proximity(Some(p.reversed())).unwrap_or_default();
@@ -236,7 +244,7 @@ fn line(letter: u8, x: &[f64]) -> String {
 fn printed(letter: u8, answer: &Option<Vec<f64>>) -> String {
     match answer {
         None => "-".to_string(),
-        Some(v) if letter == b'S' => format!("{}", v[0]),
+        Some(v) if letter == b'S' || letter.is_ascii_digit() => format!("{}", v[0]),
         Some(v) => v.iter().map(|x| format!("{:016x},", bits(*x))).collect(),
     }
 }
@@ -282,7 +290,7 @@ fn corners() -> Vec<(u8, Vec<f64>)> {
     out
 }
 
-// An arc's start and end are left to the stored calls.
+// An arc's start and end and the polygons are left to the stored calls.
 fn compare(n: u64, seed: u64) {
     let mut r = Random(seed);
     let (mut equal, mut different) = (0u64, 0u64);
@@ -311,7 +319,7 @@ fn compare(n: u64, seed: u64) {
     std::process::exit(i32::from(different != 0));
 }
 
-// The corners, then N calls of each kind, those that the Rust can be asked.
+// The corners, then N calls of each kind, those that the Rust can be asked; then the polygons.
 fn sample(n: u64, seed: u64) {
     let mut r = Random(seed);
     let mut out = std::io::stdout().lock();
@@ -329,6 +337,9 @@ fn sample(n: u64, seed: u64) {
                 left -= 1;
             }
         }
+    }
+    for (letter, x) in polygons::calls(seed) {
+        writeln!(out, "{}", line(letter, &x)).expect("output");
     }
 }
 

@@ -1,4 +1,4 @@
-// Replays calls of the geometry from standard input, a line each: a letter, then its floats, each a comma and sixteen hexadecimal digits.
+// Replays calls of the geometry and of the polygon test from standard input, a line each: a letter, then its floats, each a comma and sixteen hexadecimal digits.
 // Prints a line for each call: the floats of the answer, or a hyphen where there is none.
 // The files stdin and stdout beside this program were made by `oracle/geometry store 500 1`: the calls are chosen there, and the answers are the Rust's.
 //   D x y             Dir::new
@@ -9,6 +9,7 @@
 //   C point face      center_on_face
 //   P gap normal point    reversed, then on_a and on_b
 //   H from to         halfway_to
+//   0 to 6, point corner..    inside, of a polygon with that many corners: 1 or 0
 ghost use Prim.Native.Nat.{_<_, _≤_};
 use geometry::Dir;
 use geometry::MaybeDir;
@@ -142,12 +143,48 @@ fn new_dir(c: Call) {
     }
 }
 
-fn sector(c: Call) {
-    if geometry::signed::in_sector(point_at(c, 0), dir_at(c, 2), dir_at(c, 4)) {
+fn yes_or_no(yes: bool) {
+    if yes {
         io::write_all(1, b"1");
     } else {
         io::write_all(1, b"0");
     }
+}
+
+fn sector(c: Call) {
+    yes_or_no(geometry::signed::in_sector(point_at(c, 0), dir_at(c, 2), dir_at(c, 4)));
+}
+
+// How many corners a polygon has: the digit that the letter is.
+fn corners(letter: u8) -> usize
+    ensures { λ r. ⌜ r ≤ 6 ⌝ }
+{
+    (letter % 16 % 7) as usize
+}
+
+// The floats behind the point, by twos.
+fn corners_at(c: Call) -> [[f64; 2]; 6] {
+    let mut poly = [[0.0; 2]; 6];
+    let mut i: usize = 0;
+    while i < 6 {
+        let p = point_at(c, 2 * i + 2);
+        poly[i] = [p.x, p.y];
+        i += 1;
+    }
+    poly
+}
+
+// Whether p is inside the polygon of the first n corners.
+fn first_inside(poly: &[[f64; 2]], n: usize, p: Point) -> bool {
+    if n <= poly.len() {
+        return material::inside(&poly[..n], p);
+    }
+    false
+}
+
+fn polygon(letter: u8, c: Call) {
+    let poly = corners_at(c);
+    yes_or_no(first_inside(&poly, corners(letter), point_at(c, 0)));
 }
 
 fn arc(c: Call) {
@@ -195,6 +232,7 @@ fn floats(letter: u8) -> usize
         b'C' => 8,
         b'P' => 5,
         b'H' => 4,
+        b'0'..=b'6' => 2 + 2 * corners(letter),
         _ => 0,
     }
 }
@@ -209,6 +247,7 @@ fn answer(letter: u8, c: Call) {
         b'C' => proximity(geometry::signed::center_on_face(point_at(c, 0), face_at(c, 2))),
         b'P' => meeting(c),
         b'H' => dir(dir_at(c, 0).halfway_to(dir_at(c, 2))),
+        b'0'..=b'6' => polygon(letter, c),
         _ => none(),
     }
     io::write_all(1, b"\n");
