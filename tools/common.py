@@ -12,12 +12,13 @@ from pathlib import Path
 
 ROOT = Path(__file__).resolve().parent.parent
 LONGEST = 1 << 20
+REFUSED = 3
 Names = namedtuple('Names', 'bodies parts coordinates pairs')
 NO_NAMES = Names([], [], [], [])
 
 
 class Failed(Exception):
-    """What failed, in one line, and the status to end with: 1 for input or output, 2 for usage."""
+    """What failed, in one line, and the status to end with: 1 for input or output, 2 for wrong words."""
 
     def __init__(self, message, status=1):
         super().__init__(message)
@@ -27,11 +28,13 @@ class Failed(Exception):
 # ---- Input and output ----
 
 def run_tool(name, work):
-    """Ends with the status of a tool's work; a failure is one line on standard error."""
+    """Writes the text of a tool's work and ends with its status; a failure is one line on standard error."""
     try:
         if sys.stdout is None:
             raise Failed('standard output: closed')
-        write_out(work(sys.argv[1:]))
+        text, status = work(sys.argv[1:])
+        write_out(text)
+        sys.exit(status)
     except Failed as failed:
         say(f'{name}: {failed}')
         sys.exit(failed.status)
@@ -55,6 +58,11 @@ def write_out(text):
             data = data[os.write(1, data):]
     except OSError as error:
         raise Failed(f'standard output: {error.strerror}') from None
+
+
+def path_of(word):
+    """The path that a word names; none, for standard input, where it is `-`."""
+    return None if word == '-' else word
 
 
 def bytes_of(path):
@@ -171,7 +179,7 @@ def listing_of(command, path, text):
         ran = subprocess.run(words, input=text, stdout=subprocess.PIPE, check=False)
     except (OSError, ValueError) as error:
         raise Failed(f'{shown_name(path)}: {command}: {getattr(error, "strerror", None) or error}') from None
-    if ran.returncode:
+    if ran.returncode not in (0, REFUSED):
         raise Failed(f'{shown_name(path)}: {words[0]} ended with status {ran.returncode}')
     return ran.stdout.decode('ascii', 'replace')
 
