@@ -170,6 +170,11 @@ def name_of(names, n, what):
     return f'{names[n]} ({what} {n})' if n < len(names) and names[n] else f'{what} {n}'
 
 
+def named_number(names, n):
+    """A number, with the name that it stands for where there is one."""
+    return f'{n} ({names[n]})' if n < len(names) and names[n] else f'{n}'
+
+
 # ---- Listings ----
 
 def listing_of(command, path, text):

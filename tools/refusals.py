@@ -22,10 +22,12 @@ REFUSALS = {
 }
 
 
-def in_words(number, place):
-    """A refusal in words: its number, the place where it names one, and what is refused."""
+def in_words(number, place, names):
+    """A refusal in words: its number, the place where it names one, with the name that it has, and what is refused."""
     if number not in REFUSALS:
         return f'refusal {number}, place {place}: not one of the list'
     found = REFUSALS[number]
-    where = f', {found.place} {place}' if found.place else ''
+    given = {'body': names.bodies, 'part': names.parts, 'pair': names.pairs}.get(found.place, [])
+    name = f' ({given[place]})' if place < len(given) and given[place] else ''
+    where = f', {found.place} {place}{name}' if found.place else ''
     return f'refusal {number}{where}: {found.refused}'
