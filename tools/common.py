@@ -77,10 +77,11 @@ def bytes_of(path):
 
 
 def shown_name(path):
-    """The name of the input in a message: printable, on one line."""
+    """The name of the input in a message or a picture: its bytes as UTF-8 in any locale, printable, on one line."""
     if path is None:
         return 'standard input'
-    return ''.join(c if c.isprintable() else '?' for c in str(path)) or "''"
+    name = os.fsencode(path).decode('utf-8', 'replace')
+    return ''.join(c if c.isprintable() else '?' for c in name) or "''"
 
 
 def read_input(path):
