@@ -4,10 +4,10 @@ use mathlib.Core.Bool.{Bool, true, not, _&&_, _||_, cond}
 use mathlib.Core.List.{List, map}
 use lib.Dec.{ltb}
 use lib.ListN.{take}
-use lib.Ieee.{Float, lt, le, eq, neg, isNan}
+use lib.Ieee.{Float, lt, le, neg, isNan}
 use Rattle.laws.specs.Lists.{foldl}
 use Rattle.ieee.specs.Consts.{zeroF, oneF}
-use Rattle.ieee.specs.Num.{absOf, maxOf, minOf, sameOf}
+use Rattle.ieee.specs.Num.{absOf, plainZero, maxOf, minOf, sameOf}
 use Rattle.ieee.specs.Operators.{_⊕_, _⊖_, _⊗_, _⊘_}
 use Rattle.geometry.specs.Geometry.{vectorOf}
 use Rattle.geometry.specs.Signed.{subOf, dotOf}
@@ -84,8 +84,5 @@ faceOverlapAnswer m q i =
     answerOf (callChecked m (poseFits (m .bodies) q) (ltb i (m .pairs .count)) true) (sidesOverlap (pairFeatures (m .parts) (m .outlines) (pairAt (m .pairs) i)) q)
 
 -- ---- what counts as equal in a comparison of readings: bit for bit, all NaNs alike (`sameOf`), of `face_overlap` both zeros alike as well
-abbrev pub plainZero : Float → Float
-plainZero x = cond (eq x zeroF) zeroF x
-
 abbrev pub sameOverlap : Float → Float → Bool
 sameOverlap x y = sameOf (plainZero x) (plainZero y)

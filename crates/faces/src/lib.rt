@@ -6,7 +6,7 @@ ghost use lib.ListN.{take};
 ghost use lib.Ieee.{isNan};
 ghost use Rattle.laws.specs.Lists.{foldl};
 ghost use Rattle.mechanism.specs.Description.{pairAt};
-ghost use Rattle.faces.specs.Faces.{alongOf, reachOf, withinOf, overOf, pastOf, isLong, facesIn, facesOverlap, sidesOverlap, faceOverlapAnswer, plainZero};
+ghost use Rattle.faces.specs.Faces.{alongOf, reachOf, withinOf, overOf, pastOf, isLong, facesIn, facesOverlap, sidesOverlap, faceOverlapAnswer};
 
 pub mod prepared;
 
@@ -174,11 +174,4 @@ pub fn face_overlap(m: Mechanism, q: Pose, pair: usize) -> FloatAnswer
             FloatAnswer::IsFloat(sides_overlap(pair_features_at(ps, o, pair_at(pairs, pair)), q))
         }
     }
-}
-
-// The number as it is compared and printed: +0.0 for either zero.
-pub fn plain_zero(x: f64) -> f64
-    ensures { λ r. ⌜ r ≡ plainZero x ⌝ }
-{
-    if x == 0.0 { 0.0 } else { x }
 }

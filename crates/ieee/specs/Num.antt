@@ -1,7 +1,7 @@
 -- Rust's small functions on f64. Definitions only.
 use mathlib.Core.Bool.{Bool, true, false, cond}
 use lib.Dec.{eqb}
-use lib.Ieee.{Float, nan, inf, fin, binary64, lt, isNan, toBits}
+use lib.Ieee.{Float, nan, inf, fin, binary64, lt, eq, isNan, toBits}
 use Rattle.ieee.specs.Consts.{zeroF, oneF}
 
 -- neither a NaN nor an infinity
@@ -15,6 +15,10 @@ abbrev pub absOf : Float → Float
 absOf nan = nan
 absOf (inf s) = inf false
 absOf (fin s m e) = fin false m e
+
+-- +0.0 for either zero, every other number itself
+abbrev pub plainZero : Float → Float
+plainZero x = cond (eq x zeroF) zeroF x
 
 -- A NaN gives way to the other argument. Of two equal ones, the two zeros among them, the first is kept (document 01).
 abbrev pub maxOf : Float → Float → Float

@@ -3,7 +3,7 @@ ghost use mathlib.Core.Path.{_≡_};
 ghost use mathlib.Core.Bool.{cond};
 ghost use lib.Ieee.{isNan};
 ghost use Rattle.ieee.specs.Consts.{infinityF};
-ghost use Rattle.ieee.specs.Num.{finite, absOf, maxOf, minOf, clampOf, sameOf};
+ghost use Rattle.ieee.specs.Num.{finite, absOf, plainZero, maxOf, minOf, clampOf, sameOf};
 use crate::bits::pattern;
 
 pub fn choose(t: bool, a: f64, b: f64) -> f64
@@ -34,6 +34,13 @@ pub fn abs(x: f64) -> f64
     ensures { λ r. ⌜ r ≡ absOf x ⌝ }
 {
     choose(x < 0.0, -x, choose(x == 0.0, 0.0, x))
+}
+
+// +0.0 for either zero.
+pub fn plain_zero(x: f64) -> f64
+    ensures { λ r. ⌜ r ≡ plainZero x ⌝ }
+{
+    choose(x == 0.0, 0.0, x)
 }
 
 pub fn max(a: f64, b: f64) -> f64

@@ -9,7 +9,7 @@ use bodies::Problem;
 use bodies::pose::Placement;
 use bodies::pose::Pose;
 use bodies::pose::Posed;
-use faces::plain_zero;
+use ieee::num::plain_zero;
 use mechanism::FloatAnswer;
 use mechanism::Mechanism;
 use mechanism::Pairs;
