@@ -149,11 +149,23 @@ fn segment(line: &SegLine) -> Option<Seg> {
     })
 }
 
+/// The axis that a revolved part is turned about: the one that its line gives,
+/// but +0.0 for -0.0. The sheet keeps the sign that was read.
+fn turned_about(axis: f64) -> f64 {
+    if axis == 0.0 {
+        0.0
+    } else {
+        axis
+    }
+}
+
 fn sweep(fields: SweepFields) -> Option<Sweep> {
     match fields {
         SweepFields::Extruded { width, across } => Some(Sweep::Extruded { width, across }),
         SweepFields::Revolved { axis } if axis.is_nan() => None,
-        SweepFields::Revolved { axis } => Some(Sweep::Revolved { axis_x: axis }),
+        SweepFields::Revolved { axis } => Some(Sweep::Revolved {
+            axis_x: turned_about(axis),
+        }),
         SweepFields::Milled { width } => Some(Sweep::Milled { width }),
         SweepFields::Oval { width } => Some(Sweep::Oval { width }),
     }

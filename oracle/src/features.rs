@@ -12,9 +12,10 @@ mod registry;
 mod sheet;
 mod text;
 
-use contact::{PairFeatures, Part, Piece, Role, Surface, Sweep};
+use contact::{PairFeatures, Part, Piece, Role, Surface};
 use geometry::Seg;
 use mechanism::Mechanism;
+use sheet::{Sheet, SweepFields};
 use std::collections::BTreeMap;
 use std::fmt::Write as _;
 use std::io::{Read, Write};
@@ -122,8 +123,8 @@ fn answer(text: &[u8]) -> String {
     out
 }
 
-// What the sides of a description have.
-fn tally_side(surface: &Surface, parts: &[Part], found: &mut Vec<&'static str>) {
+// What the sides of a description have; the axes are those of the sheet, as read.
+fn tally_side(surface: &Surface, parts: &[Part], sheet: &Sheet, found: &mut Vec<&'static str>) {
     let mut taken = Vec::new();
     for (k, range) in surface.ranges.iter().enumerate() {
         let part = &parts[range.part.index()];
@@ -155,13 +156,13 @@ fn tally_side(surface: &Surface, parts: &[Part], found: &mut Vec<&'static str>) 
                 found.push("joined ranges");
             }
         }
-        if let Sweep::Revolved { axis_x } = part.sweep {
+        if let SweepFields::Revolved { axis } = sheet.parts[range.part.index()].head.sweep {
             let inner = part.outline.last().expect("a closed outline").start().x;
             found.push(if inner == 0.0 { "a revolved part without a hole" } else { "a revolved part with a hole" });
-            if axis_x == 0.0 && axis_x.is_sign_negative() {
+            if axis == 0.0 && axis.is_sign_negative() {
                 found.push("a revolved axis of -0.0");
             }
-            if axis_x.is_infinite() {
+            if axis.is_infinite() {
                 found.push("a revolved axis that is infinite");
             }
         }
@@ -171,14 +172,15 @@ fn tally_side(surface: &Surface, parts: &[Part], found: &mut Vec<&'static str>) 
 fn tally() {
     let mut counts: BTreeMap<&str, usize> = BTreeMap::new();
     for text in texts() {
-        let Ok(mechanism) = read(&text) else {
+        let both = text::read(&text).and_then(|sheet| checks::described(&sheet).map(|mechanism| (sheet, mechanism)));
+        let Ok((sheet, mechanism)) = both else {
             *counts.entry("refused").or_default() += 1;
             continue;
         };
         let mut found = vec!["accepted"];
         for pair in mechanism.pairs() {
-            tally_side(&pair.a, mechanism.parts(), &mut found);
-            tally_side(&pair.b, mechanism.parts(), &mut found);
+            tally_side(&pair.a, mechanism.parts(), &sheet, &mut found);
+            tally_side(&pair.b, mechanism.parts(), &sheet, &mut found);
         }
         found.sort_unstable();
         found.dedup();

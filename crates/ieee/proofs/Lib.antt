@@ -16,3 +16,4 @@ pub mod Worked
 pub mod Arithmetic
 pub mod MinRoot
 pub mod Bounds
+pub mod Zeros

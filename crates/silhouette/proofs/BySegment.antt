@@ -91,7 +91,7 @@ last-test k n h = go (eqb (k + 2) n) refl
     go true e = let x = eqb-true (k + 2) n e in eq-eqb k (n - 1 - 1) (omega arith)
     go false e = let x = eqb-false (k + 2) n e in ne-eqb k (n - 1 - 1) (λ y. x (omega arith))
 
-chain-at : (l : List Seg) (k : ℕ) → 2 ≤ length l → k + 1 < length l → getD (chainOf l) k noLine ≡ cond (eqb (k + 2) (length l)) (endIn (cond (eqb k 0) (startIn (getD l k noLine)) (getD l k noLine))) (cond (eqb k 0) (startIn (getD l k noLine)) (getD l k noLine))
+pub chain-at : (l : List Seg) (k : ℕ) → 2 ≤ length l → k + 1 < length l → getD (chainOf l) k noLine ≡ cond (eqb (k + 2) (length l)) (endIn (cond (eqb k 0) (startIn (getD l k noLine)) (getD l k noLine))) (cond (eqb k 0) (startIn (getD l k noLine)) (getD l k noLine))
 unfolding chainOf
 chain-at l k two h =
     let m = length l - 1 in
@@ -116,7 +116,7 @@ module _ (l : List Seg) (x : Float) (k : ℕ) where
   back-long : length back ≡ length l - 1
   back-long = length-map (reverse (chainOf l)) (mirrored x) ∙ length-reverse (chainOf l) ∙ chain-length l
 
-  turned-there : k < length l - 1 → getD (revolvedOf x (chainOf l)) k noLine ≡ turnedSeg x (getD (chainOf l) k noLine)
+  pub turned-there : k < length l - 1 → getD (revolvedOf x (chainOf l)) k noLine ≡ turnedSeg x (getD (chainOf l) k noLine)
   turned-there h =
       let e = there-long in
       List·getD-append there back noLine k (omega arith) ∙ getD-any there k noLine (turnedSeg x noLine) (omega arith) ∙ List·getD-map (turnedSeg x) (chainOf l) k noLine
@@ -127,7 +127,7 @@ module _ (l : List Seg) (x : Float) (k : ℕ) where
       let s : k ≡ length there + (k - (length l - 1)) = omega arith in
       ap (λ (j : ℕ). getD (there ++ back) j noLine) s ∙ getD-append-add there back (k - (length l - 1)) noLine
 
-  turned-back : length l - 1 ≤ k → k - (length l - 1) < length l - 1 → getD (revolvedOf x (chainOf l)) k noLine ≡ mirrored x (getD (chainOf l) (length l - 1 - 1 - (k - (length l - 1))) noLine)
+  pub turned-back : length l - 1 ≤ k → k - (length l - 1) < length l - 1 → getD (revolvedOf x (chainOf l)) k noLine ≡ mirrored x (getD (chainOf l) (length l - 1 - 1 - (k - (length l - 1))) noLine)
   turned-back h b =
       let e = back-long in
       let c = chain-length l in

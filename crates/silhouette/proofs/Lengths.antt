@@ -10,6 +10,7 @@ use lib.ListN.{length, take, drop, length-map, length-append, length-reverse, le
 use lib.Seq.{length-take-le}
 use borrow.Author.Tests.{ltb-true, lt-ltb}
 use Rattle.laws.proofs.Choice.{cond-yes, and-yes, both, not-yes}
+use Rattle.ieee.specs.Num.{plainZero}
 use Rattle.geometry.specs.declared.Seg.{Seg}
 use Rattle.mechanism.specs.Check.{partsOver, FewParts}
 use Rattle.mechanism.specs.Description.{partAt, segsOf, startOfPart, turnedLength, silhouetteLength}
@@ -36,9 +37,9 @@ unfolding silhouetteOf
 silhouette-length (Extruded w a) l = refl
 silhouette-length (Revolved x) l = go (ltb (length l) 2) refl
   where
-    go : (b : Bool) → ltb (length l) 2 ≡ b → length (cond b [] (revolvedOf x (chainOf l))) ≡ turnedLength (length l)
+    go : (b : Bool) → ltb (length l) 2 ≡ b → length (cond b [] (revolvedOf (plainZero x) (chainOf l))) ≡ turnedLength (length l)
     go true e = let h = ltb-true (length l) 2 e in omega arith
-    go false e = revolved-length x (chainOf l) ∙ ap (λ (n : ℕ). n + n) (chain-length l)
+    go false e = revolved-length (plainZero x) (chainOf l) ∙ ap (λ (n : ℕ). n + n) (chain-length l)
 silhouette-length (Milled w) l = refl
 silhouette-length (Oval w) l = refl
 

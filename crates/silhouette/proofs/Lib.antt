@@ -3,3 +3,4 @@ pub mod Walks
 pub mod Lengths
 pub mod BySegment
 pub mod Closed
+pub mod Halves

@@ -1,7 +1,7 @@
 -- Parts and their silhouettes (contact/mod.rs), operation by operation. Definitions only.
-use Prim.Native.Nat.{ℕ, _+_, _-_, _%_, _≤_}
+use Prim.Native.Nat.{ℕ, _+_, _-_, _*_, _%_, _≤_}
 use mathlib.Core.Path.{_≡_}
-use mathlib.Core.Bool.{Bool, true, not, _&&_, _||_, cond}
+use mathlib.Core.Bool.{Bool, true, false, not, _&&_, _||_, cond}
 use mathlib.Core.List.{List, [], _++_, map, reverse}
 use lib.Dec.{leb, ltb}
 use lib.ListN.{length, take, drop, getD, set}
@@ -10,7 +10,7 @@ use Rattle.laws.specs.Fill.{filled}
 use Rattle.laws.specs.Loops.{anyIn}
 use Rattle.ieee.specs.Operators.{_⊕_, _⊗_}
 use Rattle.ieee.specs.Consts.{zeroF, oneF, twoF}
-use Rattle.ieee.specs.Num.{absOf}
+use Rattle.ieee.specs.Num.{absOf, plainZero}
 use Rattle.geometry.specs.Geometry.{dirOf, dirOr, startOf, endOf}
 use Rattle.geometry.specs.declared.Point.{Point}
 use Rattle.geometry.specs.declared.Dir.{Dir}
@@ -30,10 +30,10 @@ use Rattle.silhouette.specs.declared.Outline.{Outline}
 use Rattle.silhouette.specs.declared.SilhouetteSegs.{SilhouetteSegs}
 
 -- ---- Sweep
--- the axis that a part is turned about; the silhouette and the search for a centre read it here
+-- the axis that a part is turned about, an abscissa of -0.0 read as +0.0 (document 02, item 6); the silhouette and the search for a centre read it here
 abbrev pub axisOf : Sweep → MaybeAxis
 axisOf (Extruded w a) = NoAxis
-axisOf (Revolved x) = SomeAxis x
+axisOf (Revolved x) = SomeAxis (plainZero x)
 axisOf (Milled w) = NoAxis
 axisOf (Oval w) = NoAxis
 
@@ -107,6 +107,20 @@ joinsNext l i = samePoint (endOf (getD l i noLine)) (startOf (getD l ((i + 1) % 
 
 unfoldable pub closedOf : List Seg → Bool
 closedOf l = leb 2 (length l) && not (anyIn (λ i. not (joinsNext l i)) (length l) 0)
+
+-- ---- the two halves of a turned part meet on the axis, bit for bit (document 02, item 6)
+abbrev pub isLine : Seg → Bool
+isLine (Line a b) = true
+isLine (Arc c r from to) = false
+
+-- Whatever the axis: the chain's last segment joins its mirror, where that segment is a line,
+-- and the silhouette's last segment, the mirror of the chain's first, joins the first, where that is a line.
+-- Of an outline of n segments the chain has n - 1.
+pub record HalvesMeet : Type 0 where
+  pub far-end : (x : Float) (outline : List Seg) → 2 ≤ length outline → isLine (getD outline (length outline - 2) noLine) ≡ true
+      → joinsNext (silhouetteOf (Revolved x) outline) (length outline - 2) ≡ true
+  pub near-end : (x : Float) (outline : List Seg) → 2 ≤ length outline → isLine (getD outline 0 noLine) ≡ true
+      → joinsNext (silhouetteOf (Revolved x) outline) (2 * (length outline - 1) - 1) ≡ true
 
 -- ---- segments in an array
 abbrev pub segOf : OutlineSeg → Seg

@@ -15,6 +15,7 @@ use geometry::Dir;
 use geometry::Point;
 use geometry::Seg;
 use ieee::num::abs;
+use ieee::num::plain_zero;
 use mechanism::Outlines;
 use mechanism::Parts;
 use mechanism::check::parts_over;
@@ -39,7 +40,7 @@ pub enum MaybeAxis {
     NoAxis,
 }
 
-// The abscissa of the axis that a part is turned about.
+// The abscissa of the axis that a part is turned about, -0.0 read as +0.0.
 pub fn axis(sweep: Sweep) -> MaybeAxis
     ensures { λ r. ⌜ r ≡ axisOf sweep ⌝ }
 {
@@ -48,7 +49,7 @@ pub fn axis(sweep: Sweep) -> MaybeAxis
             width: _,
             across: _,
         } => MaybeAxis::NoAxis,
-        Sweep::Revolved { axis } => MaybeAxis::SomeAxis(axis),
+        Sweep::Revolved { axis } => MaybeAxis::SomeAxis(plain_zero(axis)),
         Sweep::Milled { width: _ } => MaybeAxis::NoAxis,
         Sweep::Oval { width: _ } => MaybeAxis::NoAxis,
     }

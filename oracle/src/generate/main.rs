@@ -1,7 +1,8 @@
 //! A seeded generator of sheet texts.
 //!
 //! `generate [--only FAMILY] FOLDER N [SEED]` writes FOLDER/000000.sheet and
-//! so on; sheet i of a seed depends on i and the seed alone. `generate
+//! so on; sheet i of a seed depends on i and the seed alone. `generate --plain
+//! FOLDER N SEED` leaves the families about an axis of -0.0 out. `generate
 //! --samples FOLDER` writes the samples of `sheets/`, `generate --findings
 //! FOLDER` those of `oracle/findings/`, `generate --chosen
 //! FOLDER` corners that random sheets do not meet; `generate --families` names the
@@ -12,6 +13,7 @@ mod damage;
 mod deep;
 mod grid;
 mod limits;
+mod mirrored;
 mod outline;
 mod random;
 mod refusals;
@@ -83,6 +85,12 @@ const FAMILIES: [Family; 6] = [
     (9, "damaged", damaged_text),
 ];
 
+/// Families of texts about an axis of -0.0.
+const MINUS_ZERO: [Family; 2] = [
+    (14, "minus_zero", |rng| mirrored::about_minus_zero(rng).text()),
+    (6, "mirrored", mirrored_text),
+];
+
 /// A sheet of one of the families of valid sheets.
 fn valid(rng: &mut Rng) -> Sheet {
     let all: usize = VALID.iter().map(|family| family.0).sum();
@@ -103,6 +111,16 @@ fn wild_text(rng: &mut Rng) -> Vec<u8> {
     sheet.text()
 }
 
+/// A valid sheet with turned parts, their axes at -0.0.
+fn mirrored_text(rng: &mut Rng) -> Vec<u8> {
+    let mut sheet = valid(rng);
+    while !mirrored::has_turned(&sheet) {
+        sheet = valid(rng);
+    }
+    mirrored::set_axes(&mut sheet);
+    sheet.text()
+}
+
 /// A valid sheet with faults that are refused by number.
 fn refused_text(rng: &mut Rng) -> Vec<u8> {
     let mut sheet = valid(rng);
@@ -120,17 +138,27 @@ fn damaged_text(rng: &mut Rng) -> Vec<u8> {
     damage::damage(rng, &text)
 }
 
-/// A text of any family.
-fn any(rng: &mut Rng) -> Vec<u8> {
-    let all: usize = FAMILIES.iter().map(|family| family.0).sum();
+/// A text of one of the families.
+fn some_text(rng: &mut Rng, families: &[Family]) -> Vec<u8> {
+    let all: usize = families.iter().map(|family| family.0).sum();
     let mut left = rng.below(all);
-    for (weight, _, make) in FAMILIES {
+    for &(weight, _, make) in families {
         if left < weight {
             return make(rng);
         }
         left -= weight;
     }
     unreachable!("the weights add up to more than any pick")
+}
+
+/// All families of texts.
+fn families() -> Vec<Family> {
+    [&FAMILIES[..], &MINUS_ZERO].concat()
+}
+
+/// A text of any family.
+fn any(rng: &mut Rng) -> Vec<u8> {
+    some_text(rng, &families())
 }
 
 /// Texts for the comparison of refusals: every other one damaged.
@@ -148,13 +176,14 @@ fn only(name: &str, rng: &mut Rng) -> Option<Vec<u8>> {
     if let Some((_, _, make)) = valid {
         return Some(make(rng).text());
     }
-    let family = FAMILIES.iter().find(|family| family.1 == name);
+    let family = families().into_iter().find(|family| family.1 == name);
     family.map(|(_, _, make)| make(rng))
 }
 
 /// Which texts to write.
 enum Choice<'a> {
     Any,
+    Plain,
     HalfDamaged,
     Only(&'a str),
 }
@@ -169,6 +198,7 @@ fn write(folder: &str, count: u64, seed: u64, choice: &Choice) -> io::Result<()>
                 only(name, &mut rng).ok_or(io::Error::other("no such family"))?
             }
             Choice::HalfDamaged => half_damaged(index, &mut rng),
+            Choice::Plain => some_text(&mut rng, &FAMILIES),
             Choice::Any => any(&mut rng),
         };
         fs::write(Path::new(folder).join(format!("{index:06}.sheet")), text)?;
@@ -188,13 +218,17 @@ fn name_families() {
     for (_, name, _) in VALID {
         println!("{name}");
     }
-    for (_, name, _) in FAMILIES {
+    for (_, name, _) in families() {
         println!("{name}");
     }
 }
 
 fn run(words: &[&str]) -> io::Result<()> {
-    let usage = || io::Error::other("usage: generate [--only FAMILY | --half-damaged] FOLDER N [SEED]");
+    let usage = || {
+        io::Error::other(
+            "usage: generate [--only FAMILY | --half-damaged | --plain] FOLDER N [SEED]",
+        )
+    };
     let number = |word: &str| word.parse::<u64>().map_err(|_| usage());
     match words {
         ["--families"] => {
@@ -212,6 +246,9 @@ fn run(words: &[&str]) -> io::Result<()> {
         }
         ["--half-damaged", folder, count, seed] => {
             write(folder, number(count)?, number(seed)?, &Choice::HalfDamaged)
+        }
+        ["--plain", folder, count, seed] => {
+            write(folder, number(count)?, number(seed)?, &Choice::Plain)
         }
         [folder, count] => write(folder, number(count)?, 1, &Choice::Any),
         [folder, count, seed] => write(folder, number(count)?, number(seed)?, &Choice::Any),

@@ -3,7 +3,7 @@
 
 use crate::limits::all_limits;
 use crate::outline::{chain, corners, polygon, rounded, Element};
-use crate::sheet::{honest, solid, Joint, Part, Range, Seg, Sheet};
+use crate::sheet::{honest, solid, Joint, Part, Range, Seg, Sheet, Sweep};
 use crate::trade::{cloth, keystick, pin, punching, Key};
 
 /// The worked example of document 01.
@@ -431,8 +431,128 @@ fn no_coordinates() -> Sheet {
     sheet
 }
 
-/// Corners of document 01 that random sheets do not meet.
-pub fn chosen() -> [(&'static str, Sheet); 15] {
+/// A profile turned about an axis, on the ground, under the level face of a
+/// triangle, half a unit above the height 1.
+fn under_a_face(axis: f64, profile: Vec<Seg>) -> Sheet {
+    let mut sheet = Sheet::default();
+    let body = sheet.body(0, Joint::Ground);
+    let key = [(-1.0, 1.5), (1.0, 1.5), (0.0, 2.0)];
+    sheet.part(solid(body, polygon(&key)));
+    sheet.part(Part {
+        sweep: Sweep::Revolved { axis },
+        ..solid(0, profile)
+    });
+    sheet.margin = 1.0;
+    sheet
+}
+
+/// The profile of a cone with its apex at the height 1.
+fn cone() -> Vec<Seg> {
+    polygon(&[(0.0, 0.0), (1.0, 0.0), (0.0, 1.0)])
+}
+
+/// A cone about -0.0 under a level face; its two sides are two ranges, which
+/// join at its apex: one corner, one row, and a slope.
+fn axis_minus_zero() -> Sheet {
+    let mut sheet = under_a_face(-0.0, cone());
+    sheet.pair(false, &[(0, 0, 1)], &[(1, 1, 2), (1, 2, 3)]);
+    sheet
+}
+
+/// A cone about -0.0 with its apex down, half a unit over the level face of a
+/// stop on the ground, which reaches farther to the left.
+fn over_a_stop() -> Sheet {
+    let mut sheet = Sheet::default();
+    let body = sheet.slide(0, (0.0, 0.0), (0.0, 1.0), 0.5);
+    sheet.entries[0] = (0.5, 0.0, 1.0);
+    sheet.part(Part {
+        role: 'L',
+        sweep: Sweep::Revolved { axis: -0.0 },
+        ..solid(body, polygon(&[(0.25, 0.0), (1.0, 0.5), (0.25, 0.5)]))
+    });
+    sheet.part(solid(0, polygon(&corners(-2.0, -1.0, 0.5, 0.0))));
+    sheet.margin = 1.0;
+    sheet
+}
+
+/// The cone's sides are ranges that join at the lower end of the axis.
+fn minus_zero_axis_ranges() -> Sheet {
+    let mut sheet = over_a_stop();
+    sheet.pair(false, &[(0, 3, 4), (0, 0, 1)], &[(1, 2, 3)]);
+    sheet
+}
+
+/// The cone's corner at the lower end of the axis has both sides for its
+/// faces; the left one runs on over the stop.
+fn minus_zero_axis_corner() -> Sheet {
+    let mut sheet = over_a_stop();
+    sheet.pair(false, &[(0, 0, 4)], &[(1, 2, 3)]);
+    sheet.pair(false, &[(1, 2, 3)], &[(0, 0, 4)]);
+    sheet
+}
+
+/// A spool about -0.0 whose profile meets the axis at half its height, read
+/// at its centre: the first corner on the axis is the one at the waist.
+fn minus_zero_axis_centre() -> Sheet {
+    let spool = [(0.0, 0.0), (1.0, 0.0), (0.0, 0.5), (1.0, 1.0), (0.0, 1.0)];
+    let mut sheet = under_a_face(-0.0, polygon(&spool));
+    sheet.pair(true, &[(0, 0, 1)], &[(1, 0, 8)]);
+    sheet.margin = f64::INFINITY;
+    sheet
+}
+
+/// A part about -0.0 with an arc at each end of its profile: a quarter of a
+/// circle below, and an arc of radius zero above, where the halves meet in a
+/// corner. Its ranges join at both ends of the axis.
+fn minus_zero_axis_arcs() -> Sheet {
+    let round = Element::Arc {
+        c: (0.0, 0.0),
+        r: 0.5,
+        from: (0.0, -1.0),
+        to: (1.0, 0.0),
+    };
+    let tip = Element::Arc {
+        c: (0.0, 1.0),
+        r: 0.0,
+        from: (1.0, 0.0),
+        to: (3.0, 4.0),
+    };
+    let profile = chain(&[round, tip]);
+    let half = profile.len() - 1;
+    let mut sheet = under_a_face(-0.0, profile);
+    let halves = [(1, 0, half), (1, half, 2 * half)];
+    sheet.pair(false, &[(0, 0, 1)], &halves);
+    sheet.pair(false, &[(0, 0, 3)], &[halves[1], halves[0]]);
+    sheet.pair(true, &[(0, 0, 1)], &[(1, 0, 2 * half)]);
+    sheet
+}
+
+/// A cut about -0.0 over a pin: its mouth is the two segments of the block
+/// that meet on the axis, and neither is sampled.
+fn minus_zero_axis_mouth() -> Sheet {
+    let mut sheet = over_a_pin(polygon(&corners(0.0, 0.0, 1.0, 2.0)));
+    sheet.parts[2].sweep = Sweep::Revolved { axis: -0.0 };
+    let left = [(-2.0, 3.0), (-2.0, 0.0), (-1.0, 0.0), (0.0, 0.0)];
+    let right = [(1.0, 0.0), (2.0, 0.0), (2.0, 3.0)];
+    sheet.parts[0].outline = polygon(&[&left[..], &right[..]].concat());
+    sheet.pairs.clear();
+    sheet.pair(false, &[(0, 1, 2), (2, 1, 5), (0, 4, 5)], &[(1, 2, 3)]);
+    sheet
+}
+
+/// A cone about an infinite axis, in two ranges that join there and read at
+/// its centre.
+fn infinite_axis(axis: f64) -> Sheet {
+    let mut sheet = under_a_face(axis, cone());
+    sheet.pair(false, &[(0, 0, 1)], &[(1, 1, 2), (1, 2, 3)]);
+    sheet.pair(true, &[(0, 0, 3)], &[(1, 1, 3)]);
+    sheet
+}
+
+/// Corners of documents 01 and 02 that random sheets do not meet, or not for
+/// sure. The listings of those named `minus-zero-axis-` would be others if the
+/// sign of the axis were kept.
+pub fn chosen() -> [(&'static str, Sheet); 22] {
     [
         ("minus-zero-gap", minus_zero_gap()),
         ("flat-limit", flat_limit()),
@@ -449,12 +569,20 @@ pub fn chosen() -> [(&'static str, Sheet); 15] {
         ("half-turns", half_turns()),
         ("no-coordinates", no_coordinates()),
         ("all-limits", all_limits()),
+        ("minus-zero-axis-ranges", minus_zero_axis_ranges()),
+        ("minus-zero-axis-corner", minus_zero_axis_corner()),
+        ("minus-zero-axis-centre", minus_zero_axis_centre()),
+        ("minus-zero-axis-arcs", minus_zero_axis_arcs()),
+        ("minus-zero-axis-mouth", minus_zero_axis_mouth()),
+        ("infinite-axis", infinite_axis(f64::INFINITY)),
+        ("minus-infinite-axis", infinite_axis(f64::NEG_INFINITY)),
     ]
 }
 
 /// The inputs on which the patched and the unpatched original differ, then
-/// those on which the original is not what a reader may expect.
-pub fn findings() -> [(&'static str, Sheet); 6] {
+/// those on which the original is not what a reader may expect, then the one
+/// that is read otherwise since document 02.
+pub fn findings() -> [(&'static str, Sheet); 7] {
     [
         ("no-placed-length", no_placed_length()),
         ("reach-overflows", reach_overflows()),
@@ -462,6 +590,7 @@ pub fn findings() -> [(&'static str, Sheet); 6] {
         ("facing-overflows", facing_overflows()),
         ("corner-at-minus-zero", corner_at_minus_zero()),
         ("cut-of-another-body", cut_of_another_body()),
+        ("axis-minus-zero", axis_minus_zero()),
     ]
 }
 

@@ -8,6 +8,9 @@ enum-told c = search needs
 enum-known-sweep : tie.Need-enum-known-sweep
 enum-known-sweep c = search needs
 
+plain-zero-requires : tie.Need-plain-zero-requires
+plain-zero-requires c κs = search needs
+
 enum-told-2 : tie.Need-enum-told-2
 enum-told-2 c = search needs
 
@@ -19,8 +22,8 @@ returns c = search needs
 
 returns-2 : tie.Need-returns-2
 returns-2 c =
-    let t1 = c .before .sweep .given .1 in
-    simp (t1)
+    let t1 = c .before .before .sweep .given .1 in
+    simp (t1, c .plain-zero .ensures)
 
 returns-3 : tie.Need-returns-3
 returns-3 c = search needs
@@ -34,6 +37,7 @@ axis-spec =
     (tie.spec
     enum-told
     enum-known-sweep
+    plain-zero-requires
     enum-told-2
     enum-told-3
     returns
