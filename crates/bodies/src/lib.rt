@@ -1,5 +1,7 @@
 // Bodies in a tree of joints (mechanism/mod.rs), as one value within document 01's limits, and what is refused.
 // The count stands beside the array; entries past the count are never read. Bodies and coordinates are named by their numbers.
+#![tactic(auto)]
+
 pub mod check;
 pub mod pose;
 

@@ -1,4 +1,6 @@
 // The face of a segment, its normals, and the disc of an arc or of a convex corner (contact/features.rs).
+#![tactic(auto)]
+
 ghost use Rattle.std.specs.Prelude.{◌≡◌};
 ghost use Rattle.corners.specs.Corners.{right_of, normal_of, ends_normals, face_of, convex_of, vertex_of, run_back, arc_of, corner_of};
 

@@ -1,4 +1,6 @@
 // The drawn material of parts at a pose, as polygons in lent arrays (contact/rows.rs: `material`, `is_read`, `is_sampled`).
+#![tactic(auto)]
+
 ghost use Rattle.std.specs.Prelude.{◌≡◌, cond, ◌++◌, map, ◌+◌, ◌*◌, ◌<◌, ◌≤◌, length, take};
 ghost use Rattle.std.proofs.lemmas.List.Edits.{sets};
 ghost use Rattle.laws.specs.Lists.{flat};

@@ -1,5 +1,7 @@
 // Functions for a caller in Rust or C, on plain numbers: for the comparisons in oracle/ and bench/.
 // Where an answer has several floats, `n` says which is wanted: 0 is 1.0 where there is an answer and 0.0 where there is none, then the floats in the order of the fields.
+#![tactic(auto)]
+
 ghost use Rattle.std.specs.Prelude.{◌≡◌};
 ghost use Rattle.ieee.specs.Root.{root_of};
 ghost use Rattle.geometry.specs.Geometry.{dir_of, halfway_of, drawn_of};

@@ -1,4 +1,6 @@
 // How far side B's drawn faces stand past side A's (contact/bearing.rs: `face_overlap`).
+#![tactic(auto)]
+
 ghost use Rattle.std.specs.Prelude.{◌≡◌, false, ◌<◌, ◌≤◌, take};
 ghost use Rattle.std.specs.Float.Ieee.{is_nan};
 ghost use Rattle.laws.specs.Lists.{foldl};

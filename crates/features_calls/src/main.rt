@@ -2,6 +2,8 @@
 // refused (document 01's 1 to 11), else for each side of each pair its body and its counts, then its faces, its discs and its centre, a line each: the
 // piece's letter, part and segment, then the floats. The files stdin and stdout beside this program were made by `oracle/features store`: the answers
 // are the Rust's.
+#![tactic(auto)]
+
 ghost use Rattle.std.specs.Prelude.{◌≤◌};
 
 use bodies::{Checked, Problem};

@@ -1,4 +1,6 @@
 // Points, directions and the two kinds of segment that outlines are made of (geometry/mod.rs).
+#![tactic(auto)]
+
 ghost use Rattle.std.specs.Prelude.{◌≡◌};
 ghost use Rattle.geometry.specs.Geometry.{dir_of, dir_or, vector_of, halfway_of, on_circle, start_of, end_of, drawn_of};
 

@@ -10,6 +10,8 @@
 //   P gap normal point    reversed, then on_a and on_b
 //   H from to         halfway_to
 //   0 to 6, point corner..    inside, of a polygon with that many corners: 1 or 0
+#![tactic(auto)]
+
 ghost use Rattle.std.specs.Prelude.{◌<◌, ◌≤◌};
 
 use geometry::signed::{Disc, Face, MaybeProximity, Proximity};

@@ -1,4 +1,6 @@
 // The governing row of a pair (contact/rows.rs: `governing`, `gap`), and one row's gradient or slip by its number (`grad`, `slip`), of rows in lent arrays.
+#![tactic(auto)]
+
 ghost use Rattle.std.specs.Prelude.{◌≡◌, [], ◌≤◌, length};
 ghost use Rattle.mechanism.specs.Rows.{pair_in, gap_in};
 ghost use Rattle.governing.specs.Governing.{governing_of, gap_of, lesser_gap, least_gap, row_of_best, gap_of_best, lesser, records_in, row_there, row_entries};

@@ -49,6 +49,7 @@ holds e = subst T (sym e) tt
 
 pub is_true : (b : Bool) → T b → b ≡ true
 is_true true h = refl
+is_true false h = elim h [ ]
 
 pub is_false : (b : Bool) → (T b → ⊥) → b ≡ false
 is_false true f = absurd (f tt)
@@ -68,6 +69,7 @@ or_cases false b h = inr h
 
 pub or_l : (a b : Bool) → T a → T (a || b)
 or_l true b h = tt
+or_l false b h = elim h [ ]
 
 pub or_r : (a b : Bool) → T b → T (a || b)
 or_r true b h = tt

@@ -56,6 +56,7 @@ module _ (p : ℕ → Bool) where
     where
       here : (b : Bool) → T b → s ≡ j → Memᴰ j (cond b (s ∷ filter_in p k (suc s)) (filter_in p k (suc s)))
       here true u e = mathlib.Core.List.Memᴰ.head (sym e)
+      here false u e = elim u [ ]
 
       there : (b : Bool) → Memᴰ j (filter_in p k (suc s)) → Memᴰ j (cond b (s ∷ filter_in p k (suc s)) (filter_in p k (suc s)))
       there true m = mathlib.Core.List.Memᴰ.tail m

@@ -1,2 +1,4 @@
 // The listing of a sheet text.
+#![tactic(auto)]
+
 pub mod whole;

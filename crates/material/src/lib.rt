@@ -1,4 +1,6 @@
 // Drawn material as polygons in lent arrays: inside, depth, and the largest square of the depths of many points (contact/rows.rs: `Material`, `inside`).
+#![tactic(auto)]
+
 ghost use Rattle.std.specs.Prelude.{◌≡◌, false, cond, ◌-◌, ◌%◌, ◌<◌, ◌≤◌, get_or};
 ghost use Rattle.std.specs.Float.Ieee.{is_nan, lt};
 ghost use Rattle.laws.specs.Lists.{list_in, foldl, any};

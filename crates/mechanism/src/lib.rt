@@ -1,5 +1,7 @@
 // Bodies in a tree, the parts that they carry and the contacts declared between them (mechanism/mod.rs), as one value within document 01's limits.
 // In each list the count stands beside an array; entries past the count are never read. Bodies, coordinates, parts and pairs are named by their numbers.
+#![tactic(auto)]
+
 pub mod bearing;
 pub mod check;
 pub mod features;

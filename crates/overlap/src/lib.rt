@@ -1,4 +1,6 @@
 // How deep parts stand in one another (contact/rows.rs: `sunk`, `overlap`, `pair_overlap`, `parts_overlap`).
+#![tactic(auto)]
+
 ghost use Rattle.std.specs.Prelude.{◌≡◌, true, not, ◌&&◌, map, ◌+◌, ◌*◌, ◌<◌, ◌≤◌, eqb, ltb, length};
 ghost use Rattle.laws.specs.Lists.{list_in, flat, any};
 ghost use Rattle.laws.specs.Loops.{any_in, fold_in};

@@ -2,6 +2,8 @@
 // (document 01's 1 to 11), else `accepted` and `overlap`, then `pair_overlap` and `face_overlap` of each pair, then `parts_overlap` of eight pairs of lists of
 // parts: none, the first, the second with the first between, the even ones, the odd ones, one too many. The files stdin and stdout beside this program were
 // made by `oracle/overlaps store`: the answers are the Rust's.
+#![tactic(auto)]
+
 ghost use Rattle.std.specs.Prelude.{◌≤◌};
 
 use bodies::pose::{Placement, Pose, Posed};

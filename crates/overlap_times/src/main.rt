@@ -1,5 +1,7 @@
 // For bench/run: reads a sheet text behind its length in six decimal digits and a newline, then requests of two numbers in the same form, of which the second says how often,
 // until it is zero: asks for `pair_overlap` of the description by value, pair after pair at one pose, and prints the bits of the sum of the answers of each request.
+#![tactic(auto)]
+
 ghost use Rattle.std.specs.Prelude.{◌≤◌};
 
 use bodies::pose::{Placement, Pose, Posed};

@@ -1,4 +1,6 @@
 // The rows shown of a pair's candidates (contact/rows.rs: hiding, margin, `push`), with their gradients and slips, into lent arrays.
+#![tactic(auto)]
+
 ghost use Rattle.std.specs.Prelude.{◌≡◌, ◌&&◌, cond, [], ◌+◌, ◌*◌, ◌<◌, ◌≤◌, eqb, length, take, drop, replicate};
 ghost use Rattle.std.proofs.lemmas.List.Edits.{sets};
 ghost use Rattle.laws.specs.Lists.{any};

@@ -9,6 +9,8 @@
 //   W body x y                       prints where a material point is
 // A refusal prints X, its number and its place. The files stdin and stdout beside this program were made by `oracle/poses store 600 1`:
 // the calls are chosen there, and the answers are the Rust's.
+#![tactic(auto)]
+
 ghost use Rattle.std.specs.Prelude.{◌<◌, ◌≤◌};
 
 use bodies::pose::{Entry, MaterialPoint, Placement, PointAnswer, Pose};

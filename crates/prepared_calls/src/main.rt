@@ -2,6 +2,8 @@
 // a number that all of the reading goes into: every row with its pieces, gap, normal and point, all gradients, all slips, of each pair the overlaps and the bearing. Each pair's overlap is also asked for by itself,
 // and stands as -1 where the two differ. Before each description the same arrays are prepared for the accepted one before it that has the most segments. The texts come from standard input, each behind its
 // length in six decimal digits and a newline. The files stdin and stdout beside this program were made by `oracle/readings store`: the answers are the Rust's.
+#![tactic(auto)]
+
 ghost use Rattle.std.specs.Prelude.{◌≤◌};
 
 use bodies::pose::{Lent, Placement, Pose, Posed};

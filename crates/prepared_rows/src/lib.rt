@@ -1,4 +1,6 @@
 // The rows of all pairs over a prepared description.
+#![tactic(auto)]
+
 ghost use Rattle.std.specs.Prelude.{◌≡◌, map, ◌≤◌, length};
 ghost use Rattle.std.proofs.lemmas.List.Edits.{sets};
 ghost use Rattle.mechanism.specs.Rows.{place_row, value_row};

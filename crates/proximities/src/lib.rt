@@ -1,4 +1,6 @@
 // One reading of two features at a pose, and a candidate into lent arrays (contact/rows.rs: `turned`, `world_face`, `world_disc`, `real`).
+#![tactic(auto)]
+
 ghost use Rattle.std.specs.Prelude.{◌≡◌, true, false, ◌+◌, ◌<◌, length};
 ghost use Rattle.geometry.specs.Signed.{disc_on_face, center_on_face, on_a, on_b};
 ghost use Rattle.material.specs.Material.{material_of};

@@ -1,4 +1,6 @@
 // The whole reading of a description at a pose, after one check: its rows, and of every pair the overlaps and the bearing.
+#![tactic(auto)]
+
 ghost use Rattle.std.specs.Prelude.{◌≡◌, true, [], map, ◌≤◌, length};
 ghost use Rattle.std.proofs.lemmas.List.Edits.{sets};
 ghost use Rattle.laws.specs.Fill.{filled};

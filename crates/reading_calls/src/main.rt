@@ -3,6 +3,8 @@
 // of each pair the overlaps and the bearing; then the governing row, its gap and the bearing of each pair and of one that is not there, by the rows that were read,
 // by the same in the opposite order, and by those with a NaN for the first gap. The files stdin and stdout beside this program were made by `oracle/readings store`:
 // the answers are the Rust's.
+#![tactic(auto)]
+
 ghost use Rattle.std.specs.Prelude.{◌≤◌, ◌≡◌, length};
 
 use bearings::BearingAnswer;

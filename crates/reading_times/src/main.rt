@@ -1,5 +1,7 @@
 // For bench/run: reads a sheet text behind its length in six decimal digits and a newline, prepares it, then reads requests of two numbers in the same form, what is asked
 // and how often, until the second is zero: 0 asks for the whole reading, 1 for `pair_overlap` of one pair after the other at one pose. Prints the bits of the sum of the answers of each request.
+#![tactic(auto)]
+
 ghost use Rattle.std.specs.Prelude.{◌≤◌};
 
 use bodies::pose::{Lent, Placement, Pose, Posed};

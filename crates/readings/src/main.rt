@@ -1,4 +1,6 @@
 // Reads a sheet text from standard input and prints its listing (document 01, "The sheet text").
+#![tactic(auto)]
+
 fn main() {
     let mut text = [0u8; 65537];
     let n = io::read_full(0, &mut text);

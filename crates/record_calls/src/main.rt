@@ -3,6 +3,8 @@
 // Prints a line for each pair from 0 to 16 and for 65535: the pair, the number of its governing record (64 for none), its gap (0.375 for none), how it bears
 // (0 not at all, 1 flat, 2 on the stop's edge, 3 on the key's corner), the gap, x and y of the point, and the slope (0.375 for none).
 // The files stdin and stdout beside this program were made by `oracle/readings store-records`: the answers are the Rust's.
+#![tactic(auto)]
+
 use row_exports::{sewqirun_bearing_record, sewqirun_gap_record, sewqirun_governing_record};
 use text::fields::{field, real_at};
 

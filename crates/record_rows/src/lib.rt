@@ -1,4 +1,6 @@
 // The rows of a mechanism at a pose as records in a lent slice (contact/rows.rs: `rows`), pair by pair: each pair's rows are written as numbers, then as records behind those of the pairs before.
+#![tactic(auto)]
+
 ghost use Rattle.std.specs.Prelude.{◌≡◌, map, ◌+◌, ◌<◌, ◌≤◌, length};
 ghost use Rattle.std.proofs.lemmas.List.Edits.{sets};
 ghost use Rattle.bodies.specs.declared.Checked.TheVariants.{Accepted};

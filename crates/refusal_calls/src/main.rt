@@ -2,6 +2,8 @@
 // The text on standard input has sixteen coordinates and one slide. First the pose of its description for 16, 15, 17 and 1,000 entries that are counted;
 // then, for the slide's axis as it was read, (0,0), (NaN,0) and (0,0) on a body that is its own parent, the calls that take bodies, with 16 entries and with 15:
 // `Bodies::pose`, `read_in`, `rows_in` and the prepared `pair_overlap`. The answers stored beside this program were written from document 01.
+#![tactic(auto)]
+
 use bodies::pose::{Lent, Pose};
 use bodies::{Bodies, Body, Checked, Joint, Problem};
 use geometry::{Dir, Point};

@@ -1,5 +1,7 @@
 // Prints the listings of sheet texts from standard input, each behind its length in six decimal digits and a newline. The files stdin and stdout beside this program were made by
 // `oracle/listings`: the listings are the Rust's.
+#![tactic(auto)]
+
 ghost use Rattle.std.specs.Prelude.{◌≤◌};
 
 // A number of at most six digits, with one more digit after it.

@@ -1,6 +1,8 @@
 // Prints how much room `rows_in_numbers` asks for, of sheet texts from standard input, each behind its length in six decimal digits and a newline: X,number,place where a text is refused (document 01's 1 to 11 and 13,
 // with 256 rows lent), else `accepted` and the fewest places, values, gradients and slips, each with plenty of the others, that are accepted, then `kept`, or `written` where a refused call wrote something or an accepted one something
 // past its last row, or where the same call over records does not answer and leave the same. The files stdin and stdout beside this program were made by `oracle/readings store`: the numbers are the Rust's faces and discs.
+#![tactic(auto)]
+
 ghost use Rattle.std.specs.Prelude.{◌≤◌};
 
 use bodies::pose::{Placement, Pose, Posed};

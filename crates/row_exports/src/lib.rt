@@ -1,4 +1,6 @@
 // Functions over rows for a caller in Rust or C, on plain numbers: for the comparison in oracle/. An exported function takes no enum, so that a row goes as its seven whole numbers and its five floats.
+#![tactic(auto)]
+
 ghost use Rattle.std.specs.Prelude.{◌≡◌, ◌≤◌, length, take};
 ghost use Rattle.mechanism.specs.Rows.{pair_in, gap_in, row_in};
 ghost use Rattle.governing.specs.Governing.{governing_of, gap_of, records_in, row_entries};

@@ -1,4 +1,6 @@
 // The governing row of a pair among row records (contact/rows.rs: `governing`, `gap`), the bearing by it (contact/bearing.rs), and rows in lent arrays as records.
+#![tactic(auto)]
+
 ghost use Rattle.std.specs.Prelude.{◌≡◌, ◌<◌, ◌≤◌, length};
 ghost use Rattle.std.proofs.lemmas.List.Edits.{sets};
 ghost use Rattle.mechanism.specs.Description.{pair_at};

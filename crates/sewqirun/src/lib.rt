@@ -1,4 +1,6 @@
 // The library for callers in C and Rust: a sheet text in, its listing out. Nothing is kept between calls and nothing is allocated; the caller owns both arrays.
+#![tactic(auto)]
+
 ghost use Rattle.std.specs.Prelude.{◌≤◌, ◌≡◌, length};
 ghost use Rattle.std.proofs.lemmas.List.Edits.{sets};
 ghost use Rattle.reading_lines.specs.Readings.{longest};

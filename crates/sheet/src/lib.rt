@@ -1,4 +1,6 @@
 // The reader of the sheet text (document 01, "The sheet text").
+#![tactic(auto)]
+
 mod draft;
 mod grammar;
 mod limits;

@@ -1,6 +1,8 @@
 // Answers sheet texts from standard input, each behind its length in six decimal digits and a newline: prints X,number,place where one is refused
 // (document 01's 1 to 11), else `accepted`. The files stdin and stdout beside this program were made by `oracle/texts`: the answers are those of the
 // oracle's own reader and of the Rust.
+#![tactic(auto)]
+
 ghost use Rattle.std.specs.Prelude.{◌≤◌};
 
 use bodies::{Checked, Problem};

@@ -1,4 +1,6 @@
 // Reads a sheet text from standard input and prints X,number,place where it is refused (document 01's 1 to 11), else `accepted`.
+#![tactic(auto)]
+
 use bodies::{Checked, Problem};
 
 fn print_problem(p: Problem) {

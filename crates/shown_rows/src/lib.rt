@@ -1,4 +1,6 @@
 // The rows of a mechanism at a pose (contact/rows.rs: hiding, margin, `push`, `rows`), with their gradients and slips, into lent arrays.
+#![tactic(auto)]
+
 ghost use Rattle.std.specs.Prelude.{◌≡◌, true, map, ◌+◌, ◌*◌, ◌<◌, ◌≤◌, length};
 ghost use Rattle.std.proofs.lemmas.List.Edits.{sets};
 ghost use Rattle.mechanism.specs.Check.{check_of, pair_drawn};

@@ -1,4 +1,6 @@
 // The features of a side, read from the drawn outlines in its body's frame (contact/features.rs).
+#![tactic(auto)]
+
 ghost use Rattle.std.specs.Prelude.{◌≡◌, cond, [], ◌++◌, map, reverse, ◌+◌, ◌-◌, ◌<◌, ◌≤◌, length, replicate};
 ghost use Rattle.laws.specs.Fill.{range, filled};
 ghost use Rattle.laws.specs.Loops.{join_in};

@@ -1,4 +1,6 @@
 // Parts and their silhouettes (contact/mod.rs).
+#![tactic(auto)]
+
 ghost use Rattle.std.specs.Prelude.{◌≡◌, cond, [], map, reverse, ◌+◌, ◌-◌, ◌<◌, ◌≤◌, take, drop};
 ghost use Rattle.std.proofs.lemmas.List.Edits.{sets};
 ghost use Rattle.mechanism.specs.Check.{FewParts};

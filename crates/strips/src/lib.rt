@@ -1,5 +1,7 @@
 // A description prepared for its readings: drawn and sampled points, parts, faces, discs and sides in lent arrays, a row of numbers each, so that a reading copies none of them.
 // Where a number names no row, what is read there is NaN or 0.
+#![tactic(auto)]
+
 ghost use Rattle.std.specs.Prelude.{◌≡◌, ◌≤◌, get_or, []};
 ghost use Rattle.strips.specs.Strips.{at_most, SmallPart, SmallSide, row_a, row_b, row_of_material, row_of_sampled, face_from, disc_from, piece_from, point_from, part_from, facts_from, face_row, disc_row, piece_row};
 
