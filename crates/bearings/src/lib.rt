@@ -33,27 +33,27 @@ use sides::{PlacedDisc, PlacedFace, SideFeatures};
 // FLAT_WITHIN: how far the far edge of a stop's face may stand off for the faces to count as bedded flat, in metres.
 pub const FLAT_WITHIN: f64 = 2.5e-6;
 
-#[derive(Drop)]
+#[derive(Clone, Copy)]
 pub enum MaybeFace {
     SomeFace(Face),
     NoFace,
 }
 
-#[derive(Drop)]
+#[derive(Clone, Copy)]
 pub enum MaybePoint {
     SomePoint(Point),
     NoPoint,
 }
 
 // How a pair bears, if it does, or the first refusal that applies.
-#[derive(Drop)]
+#[derive(Clone, Copy)]
 pub struct BearingAnswer {
     pub checked: Checked,
     pub bearing: MaybeBearing,
 }
 
 // What faces are scored by: how far they run from a corner toward a point, or how they face along a direction.
-#[derive(Drop)]
+#[derive(Clone, Copy)]
 pub struct Aim {
     pub reaching: bool,
     pub place: Placement,

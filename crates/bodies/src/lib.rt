@@ -8,7 +8,7 @@ pub mod pose;
 use geometry::{Dir, Point};
 
 // How a body hangs from its parent.
-#[derive(Drop)]
+#[derive(Clone, Copy)]
 pub enum Joint {
     // Fixed: the body stands where its parent does.
     Ground,
@@ -25,14 +25,14 @@ pub enum Joint {
     },
 }
 
-#[derive(Drop)]
+#[derive(Clone, Copy)]
 pub struct Body {
     pub parent: usize,
     pub joint: Joint,
 }
 
 // The bodies above the ground, which is body 0: body[i] is body i + 1. `coords` is how many coordinates there are.
-#[derive(Drop)]
+#[derive(Clone, Copy)]
 pub struct Bodies {
     pub coords: usize,
     pub count: usize,
@@ -40,7 +40,7 @@ pub struct Bodies {
 }
 
 // What is refused: document 01's list in its order, each with its place where it has one.
-#[derive(Drop)]
+#[derive(Clone, Copy)]
 pub enum Problem {
     TextTooLong,
     LineNotRead { line: usize },
@@ -57,7 +57,7 @@ pub enum Problem {
     TooFewRows,
 }
 
-#[derive(Drop)]
+#[derive(Clone, Copy)]
 pub enum Checked {
     Accepted,
     Refused(Problem),

@@ -8,7 +8,7 @@ use super::{Bodies, Body, Checked, Joint, Problem};
 use geometry::Point;
 
 // What is lent for one coordinate: its value, and the sine and cosine of it.
-#[derive(Drop)]
+#[derive(Clone, Copy)]
 pub struct Entry {
     pub value: f64,
     pub sine: f64,
@@ -19,14 +19,14 @@ pub struct Entry {
 pub type Lent = [f64; 3];
 
 // A point fixed in a body, in the body's frame.
-#[derive(Drop)]
+#[derive(Clone, Copy)]
 pub struct MaterialPoint {
     pub body: usize,
     pub at: Point,
 }
 
 // Where a body's frame stands in the world: its origin, and the cosine and sine of its rotation.
-#[derive(Drop)]
+#[derive(Clone, Copy)]
 pub struct Placement {
     pub origin: Point,
     pub cos: f64,
@@ -73,14 +73,14 @@ impl Placement {
 }
 
 // Every body placed: the ground first, `count` placements. The places past the count stand in the world.
-#[derive(Drop)]
+#[derive(Clone, Copy)]
 pub struct Pose {
     pub count: usize,
     pub placement: [Placement; 16],
 }
 
 // A pose, or the first refusal that applies and no placements.
-#[derive(Drop)]
+#[derive(Clone, Copy)]
 pub struct Posed {
     pub checked: Checked,
     pub pose: Pose,
@@ -158,20 +158,20 @@ fn placements(b: Bodies, q: &[Lent]) -> Pose
 }
 
 // How fast a point moves in the world with one coordinate.
-#[derive(Drop)]
+#[derive(Clone, Copy)]
 pub struct Column {
     pub coord: usize,
     pub column: Point,
 }
 
 // The columns of a point from its body's joint to the ground. The places past the count hold zeros.
-#[derive(Drop)]
+#[derive(Clone, Copy)]
 pub struct Columns {
     pub count: usize,
     pub column: [Column; 15],
 }
 
-#[derive(Drop)]
+#[derive(Clone, Copy)]
 enum MaybeColumn {
     SomeColumn(Column),
     NoColumn,
@@ -244,19 +244,19 @@ pub fn columns_at(b: Bodies, q: Pose, body: usize, p: Point) -> Columns
 }
 
 // A point, or why there is none.
-#[derive(Drop)]
+#[derive(Clone, Copy)]
 pub enum PointAnswer {
     IsPoint(Point),
     NoPoint(Problem),
 }
 
-#[derive(Drop)]
+#[derive(Clone, Copy)]
 pub enum PlacementAnswer {
     IsPlacement(Placement),
     NoPlacement(Problem),
 }
 
-#[derive(Drop)]
+#[derive(Clone, Copy)]
 pub enum BodyAnswer {
     IsBody(Body),
     NoBody(Problem),

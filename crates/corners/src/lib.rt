@@ -7,26 +7,26 @@ ghost use Rattle.corners.specs.Corners.{right_of, normal_of, ends_normals, face_
 use geometry::signed::{Disc, Face};
 use geometry::{Dir, MaybeDir, Point, Seg};
 
-#[derive(Drop)]
+#[derive(Clone, Copy)]
 pub enum MaybeSeg {
     NoSeg,
     SomeSeg(Seg),
 }
 
 // The normals at a segment's start and at its end.
-#[derive(Drop)]
+#[derive(Clone, Copy)]
 enum MaybeEnds {
     NoEnds,
     SomeEnds(Dir, Dir),
 }
 
-#[derive(Drop)]
+#[derive(Clone, Copy)]
 pub enum MaybeFace {
     NoFace,
     SomeFace(Face),
 }
 
-#[derive(Drop)]
+#[derive(Clone, Copy)]
 pub enum MaybeDisc {
     NoDisc,
     SomeDisc(Disc),

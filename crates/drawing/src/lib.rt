@@ -26,13 +26,13 @@ use silhouette::is_in_the_section;
 use silhouette::rows::{silhouette_count, silhouette_seg};
 
 // What each part is to a material: 1 a solid of it, 2 a cut of it, 0 neither.
-#[derive(Drop)]
+#[derive(Clone, Copy)]
 pub struct Chosen {
     pub what: [u8; 32],
 }
 
 // How many polygons there are, the first `solids` of `all` being parts and the others cuts, and how many points they have together.
-#[derive(Drop)]
+#[derive(Clone, Copy)]
 pub struct Polygons {
     pub solids: usize,
     pub all: usize,
@@ -209,7 +209,7 @@ fn draw_polygon(
 }
 
 // Where the next polygon goes: behind `at` points and `count` polygons.
-#[derive(Drop)]
+#[derive(Clone, Copy)]
 struct Cursor {
     at: usize,
     count: usize,

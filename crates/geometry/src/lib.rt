@@ -6,7 +6,7 @@ ghost use Rattle.geometry.specs.Geometry.{dir_of, dir_or, vector_of, halfway_of,
 
 pub mod signed;
 
-#[derive(Drop)]
+#[derive(Clone, Copy)]
 pub struct Point {
     pub x: f64,
     pub y: f64,
@@ -21,14 +21,14 @@ impl Point {
 }
 
 // A direction: two floats, as `Dir::new` makes them of a vector or as a caller hands them over.
-#[derive(Drop)]
+#[derive(Clone, Copy)]
 pub struct Dir {
     pub x: f64,
     pub y: f64,
 }
 
 // What `Dir::new` answers.
-#[derive(Drop)]
+#[derive(Clone, Copy)]
 pub enum MaybeDir {
     SomeDir(Dir),
     NoDir,
@@ -102,7 +102,7 @@ pub fn dir_or(found: MaybeDir, other: Dir) -> Dir
 }
 
 // A line from a to b, or an arc about c from the direction `from` counter-clockwise to the direction `to`.
-#[derive(Drop)]
+#[derive(Clone, Copy)]
 pub enum Seg {
     Line {
         a: Point,
@@ -127,14 +127,14 @@ pub fn on_circle(c: Point, r: f64, d: Dir) -> Point
 }
 
 // The points that a segment is drawn through at three halvings, its end left out: a line's one, an arc's eight. The places past the count hold a line's start.
-#[derive(Drop)]
+#[derive(Clone, Copy)]
 pub struct Drawn {
     pub count: usize,
     pub points: [Point; 8],
 }
 
 // The two points that a segment runs between.
-#[derive(Drop)]
+#[derive(Clone, Copy)]
 struct Ends {
     start: Point,
     end: Point,

@@ -5,7 +5,7 @@ ghost use Rattle.geometry.specs.Signed.{sub_of, dot_of, cross_of, opposite, in_s
 use crate::{Dir, MaybeDir, Point, dir_or};
 
 // A disc: its centre, its radius, and the directions that its boundary covers, counter-clockwise from `from` to `to`.
-#[derive(Drop)]
+#[derive(Clone, Copy)]
 pub struct Disc {
     pub center: Point,
     pub radius: f64,
@@ -14,7 +14,7 @@ pub struct Disc {
 }
 
 // A straight face from a to b, and the direction that it looks in.
-#[derive(Drop)]
+#[derive(Clone, Copy)]
 pub struct Face {
     pub a: Point,
     pub b: Point,
@@ -22,21 +22,21 @@ pub struct Face {
 }
 
 // Where two features meet: the signed gap, the normal from side B toward side A, and the point midway between the two surfaces.
-#[derive(Drop)]
+#[derive(Clone, Copy)]
 pub struct Proximity {
     pub gap: f64,
     pub normal: Dir,
     pub point: Point,
 }
 
-#[derive(Drop)]
+#[derive(Clone, Copy)]
 pub enum MaybeProximity {
     SomeProximity(Proximity),
     NoProximity,
 }
 
 // Where a point falls along a face.
-#[derive(Drop)]
+#[derive(Clone, Copy)]
 pub enum Position {
     At(f64),
     NoLength,

@@ -18,7 +18,7 @@ use geometry::signed::{Disc, Face, MaybeProximity, Proximity};
 use geometry::{Dir, MaybeDir, Point, Seg};
 
 // The floats of a call.
-#[derive(Drop)]
+#[derive(Clone, Copy)]
 struct Call {
     x: [f64; 14],
 }

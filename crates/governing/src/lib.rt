@@ -8,27 +8,27 @@ ghost use Rattle.governing.specs.Governing.{governing_of, gap_of, lesser_gap, le
 use bodies::{Checked, Problem};
 use mechanism::rows::{Place, Value};
 
-#[derive(Drop)]
+#[derive(Clone, Copy)]
 pub enum MaybeRow {
     SomeRow(usize),
     NoRow,
 }
 
-#[derive(Drop)]
+#[derive(Clone, Copy)]
 pub enum MaybeGap {
     SomeGap(f64),
     NoGap,
 }
 
 // The smallest gap so far with its row's number; nothing before the first.
-#[derive(Drop)]
+#[derive(Clone, Copy)]
 pub enum Best {
     Nothing,
     At { at: usize, gap: f64 },
 }
 
 // The gradient or slip of one row, one entry a coordinate, or the refusal that there is no such row.
-#[derive(Drop)]
+#[derive(Clone, Copy)]
 pub struct EntriesAnswer {
     pub checked: Checked,
     pub count: usize,

@@ -4,7 +4,7 @@ ghost use Rattle.ieee.specs.TotalOrder.{is_zero, total_order, ordering_of, total
 
 use crate::num::is_nan;
 
-#[derive(Drop)]
+#[derive(Clone, Copy)]
 pub enum Ordering {
     Less,
     Equal,

@@ -103,7 +103,7 @@ fn significand(m: u64, g: u64) -> u64
 }
 
 // The number m * 4^j.
-#[derive(Drop)]
+#[derive(Clone, Copy)]
 struct Scaled {
     m: u64,
     j: u64,

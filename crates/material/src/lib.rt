@@ -216,7 +216,7 @@ pub fn depth(points: &[Spot], starts: &[usize], solids: usize, all: usize, p: Po
 }
 
 // A range of ordinates.
-#[derive(Drop)]
+#[derive(Clone, Copy)]
 pub struct Range {
     pub lo: f64,
     pub hi: f64,

@@ -1,7 +1,7 @@
 // How side A of a pair bears on side B (contact/bearing.rs).
 use geometry::Point;
 
-#[derive(Drop)]
+#[derive(Clone, Copy)]
 pub enum HowItBears {
     // Face to face.
     Flat,
@@ -11,14 +11,14 @@ pub enum HowItBears {
     KeyCorner,
 }
 
-#[derive(Drop)]
+#[derive(Clone, Copy)]
 pub enum MaybeSlope {
     SomeSlope(f64),
     NoSlope,
 }
 
 // The governing row's gap and point, and the slope of side A's face over side B's, if side B has a straight one.
-#[derive(Drop)]
+#[derive(Clone, Copy)]
 pub struct Bearing {
     pub how: HowItBears,
     pub gap: f64,
@@ -26,7 +26,7 @@ pub struct Bearing {
     pub slope: MaybeSlope,
 }
 
-#[derive(Drop)]
+#[derive(Clone, Copy)]
 pub enum MaybeBearing {
     SomeBearing(Bearing),
     NoBearing,

@@ -246,7 +246,7 @@ fn parts_checked(bodies: usize, p: Parts, segs: &[SegRow]) -> Checked
 // ---- 8 to 10, pair by pair
 
 // The body that a side's ranges lie on, as far as they were read.
-#[derive(Drop)]
+#[derive(Clone, Copy)]
 enum Side {
     Unknown,
     On(usize),

@@ -3,7 +3,7 @@ ghost use Rattle.std.specs.Prelude.{◌≡◌};
 ghost use Rattle.mechanism.specs.Piece.{is_disc, letter_of, part_of, seg_of};
 
 // A piece, by its part and by its segment in the part's silhouette.
-#[derive(Drop)]
+#[derive(Clone, Copy)]
 pub enum Piece {
     // A straight segment, read as a face.
     Segment { part: usize, seg: usize },
@@ -30,7 +30,7 @@ impl Piece {
 }
 
 // What a row pairs: a piece of side A and one of side B.
-#[derive(Drop)]
+#[derive(Clone, Copy)]
 pub struct Feature {
     pub a: Piece,
     pub b: Piece,

@@ -16,25 +16,25 @@ use pair::ContactPair;
 use part::{OutlineSeg, Part};
 
 // Each part says how many segments its outline has.
-#[derive(Drop)]
+#[derive(Clone, Copy)]
 pub struct Parts {
     pub count: usize,
     pub part: [Part; 32],
 }
 
 // The segments of all outlines, part after part.
-#[derive(Drop)]
+#[derive(Clone, Copy)]
 pub struct Outlines {
     pub seg: [OutlineSeg; 384],
 }
 
-#[derive(Drop)]
+#[derive(Clone, Copy)]
 pub struct Pairs {
     pub count: usize,
     pub pair: [ContactPair; 16],
 }
 
-#[derive(Drop)]
+#[derive(Clone, Copy)]
 pub struct Mechanism {
     pub bodies: Bodies,
     pub parts: Parts,
@@ -43,7 +43,7 @@ pub struct Mechanism {
 }
 
 // A number, or the first refusal that applies.
-#[derive(Drop)]
+#[derive(Clone, Copy)]
 pub enum FloatAnswer {
     IsFloat(f64),
     NoFloat(Problem),

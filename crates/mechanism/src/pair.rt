@@ -2,13 +2,13 @@
 use super::part::SurfaceRef;
 
 // One side of a contact: ranges of drawn parts, in order.
-#[derive(Drop)]
+#[derive(Clone, Copy)]
 pub struct Surface {
     pub count: usize,
     pub range: [SurfaceRef; 4],
 }
 
-#[derive(Drop)]
+#[derive(Clone, Copy)]
 pub enum PairGeometry {
     // Corners, arcs and faces of both sides.
     Features,
@@ -16,7 +16,7 @@ pub enum PairGeometry {
     CenterBearing,
 }
 
-#[derive(Drop)]
+#[derive(Clone, Copy)]
 pub struct ContactPair {
     pub a: Surface,
     pub b: Surface,

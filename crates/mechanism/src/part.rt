@@ -2,7 +2,7 @@
 use geometry::Seg;
 
 // What a part is to the body that carries it.
-#[derive(Drop)]
+#[derive(Clone, Copy)]
 pub enum Role {
     Solid,
     Cut,
@@ -10,7 +10,7 @@ pub enum Role {
 }
 
 // How an outline becomes a solid.
-#[derive(Drop)]
+#[derive(Clone, Copy)]
 pub enum Sweep {
     Extruded { width: f64, across: f64 },
     Revolved { axis: f64 },
@@ -19,7 +19,7 @@ pub enum Sweep {
 }
 
 // A part: the body that carries it, how many segments its outline has, its sweep and its role.
-#[derive(Drop)]
+#[derive(Clone, Copy)]
 pub struct Part {
     pub body: usize,
     pub segs: usize,
@@ -28,13 +28,13 @@ pub struct Part {
 }
 
 // One segment of an outline.
-#[derive(Drop)]
+#[derive(Clone, Copy)]
 pub struct OutlineSeg {
     pub seg: Seg,
 }
 
 // The segments `start` to `end`, the last left out, of a part's silhouette.
-#[derive(Drop)]
+#[derive(Clone, Copy)]
 pub struct SurfaceRef {
     pub part: usize,
     pub start: usize,

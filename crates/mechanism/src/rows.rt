@@ -9,7 +9,7 @@ use geometry::signed::Proximity;
 use geometry::{Dir, Point};
 
 // Where two pieces of a pair stand to each other: the signed gap, the normal from side B to side A and the point midway, in the world.
-#[derive(Drop)]
+#[derive(Clone, Copy)]
 pub struct Row {
     pub pair: usize,
     pub feature: Feature,

@@ -36,7 +36,7 @@ use sides::center_of;
 use silhouette::rows::{silhouette_count, silhouette_seg};
 
 // Which parts are sampled.
-#[derive(Drop)]
+#[derive(Clone, Copy)]
 struct Owners {
     is: [bool; 32],
 }
@@ -157,7 +157,7 @@ fn sunk(
 }
 
 // How deep the first parts stand in the second, and the second in the first.
-#[derive(Drop)]
+#[derive(Clone, Copy)]
 struct Both {
     into: f64,
     back: f64,

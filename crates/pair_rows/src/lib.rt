@@ -161,7 +161,7 @@ fn put_along(
 // ---- the order of the two chains
 
 // The coordinates that a chain's joints use, from a body up.
-#[derive(Drop)]
+#[derive(Clone, Copy)]
 struct Chain {
     count: usize,
     coord: [usize; 15],
@@ -275,7 +275,7 @@ fn both_once(b: Bodies, x: usize, y: usize) -> bool
 }
 
 // How the chains of a pair's bodies are walked: the body whose chain is first, the other one, and whether the first chain is subtracted.
-#[derive(Drop)]
+#[derive(Clone, Copy)]
 struct Walk {
     pair: usize,
     first: usize,
@@ -306,7 +306,7 @@ fn order_of(bodies: Bodies, s: Source) -> Walk
 // ---- the rows of a pair
 
 // Where the rows of a pair come from: its number and its two bodies.
-#[derive(Drop)]
+#[derive(Clone, Copy)]
 pub struct Source {
     pub pair: usize,
     pub a: usize,

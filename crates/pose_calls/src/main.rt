@@ -21,13 +21,13 @@ use mechanism::part::{OutlineSeg, Part, Role, SurfaceRef, Sweep};
 use mechanism::{Mechanism, Outlines, Pairs, Parts};
 
 // The fields of a line.
-#[derive(Drop)]
+#[derive(Clone, Copy)]
 struct Fields {
     v: [u64; 6],
 }
 
 // What was read so far.
-#[derive(Drop)]
+#[derive(Clone, Copy)]
 struct State {
     bodies: Bodies,
     entries: usize,

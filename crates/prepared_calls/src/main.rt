@@ -411,7 +411,7 @@ fn answer_first(largest: Mechanism, buf: &[u8], n: usize) -> Mechanism {
 }
 
 // Whether there was one more text, and the largest description so far.
-#[derive(Drop)]
+#[derive(Clone, Copy)]
 struct Turn {
     more: bool,
     largest: Mechanism,

@@ -15,7 +15,7 @@ use mechanism::features::{Piece, letter, part, seg};
 use mechanism::rows::{Place, Value};
 
 // A reading of two pieces, and which of them decides: 1 side A's, 2 side B's, 0 none.
-#[derive(Drop)]
+#[derive(Clone, Copy)]
 pub struct Candidate {
     pub a: Piece,
     pub b: Piece,

@@ -30,7 +30,7 @@ use shown_rows::{RowsAnswer, rows_in_numbers};
 use sides::contacts::{PairFeatures, pair_features_at};
 
 // What is read of one pair beside its rows.
-#[derive(Drop)]
+#[derive(Clone, Copy)]
 pub struct PairReading {
     pub overlap: f64,
     pub face_overlap: f64,
@@ -38,7 +38,7 @@ pub struct PairReading {
 }
 
 // How many rows were written, and what is read of each of the first `pairs` pairs, or the first refusal that applies.
-#[derive(Drop)]
+#[derive(Clone, Copy)]
 pub struct Reading {
     pub checked: Checked,
     pub count: usize,

@@ -22,7 +22,7 @@ use pair_rows::{Source, put_shown};
 use shown_rows::{RowsAnswer, rows_checked};
 
 // The records of a pair: the first `count` of them.
-#[derive(Drop)]
+#[derive(Clone, Copy)]
 pub struct PairRecords {
     row: [Row; 784],
     count: usize,

@@ -91,7 +91,7 @@ fn are_entries_kept(entries: &[f64], from: usize) -> bool {
 // ---- calls
 
 // How many of each are lent.
-#[derive(Drop)]
+#[derive(Clone, Copy)]
 struct Room {
     places: usize,
     values: usize,
@@ -100,7 +100,7 @@ struct Room {
 }
 
 // Whether a call was accepted, and whether everything stayed but what its rows take.
-#[derive(Drop)]
+#[derive(Clone, Copy)]
 struct Outcome {
     accepted: bool,
     kept: bool,
@@ -160,13 +160,13 @@ fn called(
 
 // ---- the same over records, in an array of the callee's own
 
-#[derive(Drop)]
+#[derive(Clone, Copy)]
 pub struct Records {
     row: [Row; 257],
 }
 
 // The records that a call left, and its answer.
-#[derive(Drop)]
+#[derive(Clone, Copy)]
 pub struct Left {
     row: [Row; 257],
     answer: RowsAnswer,
@@ -301,7 +301,7 @@ fn room_for(what: usize, n: usize) -> Room {
 }
 
 // The fewest that are accepted, and whether no call wrote where it should not.
-#[derive(Drop)]
+#[derive(Clone, Copy)]
 struct Found {
     number: usize,
     kept: bool,

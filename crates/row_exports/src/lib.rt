@@ -65,7 +65,7 @@ pub extern "C" fn sewqirun_gap(
 // ---- the same over records, in an array of the callee's own
 
 // Records by value: the first n of them, n being said beside it.
-#[derive(Drop)]
+#[derive(Clone, Copy)]
 pub struct Records {
     row: [Row; 64],
 }
@@ -168,7 +168,7 @@ fn slope_or(found: MaybeSlope, x: f64) -> f64
 }
 
 // How it bears, 0 where it does not; the gap, x and y of the point, and the slope.
-#[derive(Drop)]
+#[derive(Clone, Copy)]
 pub struct BearingNumbers {
     how: usize,
     value: [f64; 4],

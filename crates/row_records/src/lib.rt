@@ -25,7 +25,7 @@ use sides::contacts::{PairFeatures, pair_features_at};
 // ---- the gaps of a pair's records, block by block
 
 // Gaps of a pair's records that wait to be compared, with the records' numbers, behind the smallest before them.
-#[derive(Drop)]
+#[derive(Clone, Copy)]
 struct Waiting {
     best: Best,
     count: usize,
@@ -101,7 +101,7 @@ fn place_of(w: Waiting, n: usize) -> usize
 // ---- the governing record
 
 // The record that governs, and its number.
-#[derive(Drop)]
+#[derive(Clone, Copy)]
 enum Found {
     NoRecord,
     Record { at: usize, row: Row },

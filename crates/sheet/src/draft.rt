@@ -12,7 +12,7 @@ use mechanism::part::{OutlineSeg, Part, Role, SurfaceRef, Sweep};
 use text::records::Record;
 
 // The description but for the outlines' segments, which are stored where the lines are read.
-#[derive(Drop)]
+#[derive(Clone, Copy)]
 pub(crate) struct Draft {
     pub(crate) body: [Body; 15],
     pub(crate) part: [Part; 32],

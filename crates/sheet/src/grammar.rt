@@ -18,7 +18,7 @@ const SIDE_B: u8 = 4;
 const POSE: u8 = 5;
 
 // How far a text has come: the stage of its last line, and whether M was read.
-#[derive(Drop)]
+#[derive(Clone, Copy)]
 pub(crate) struct Standing {
     stage: u8,
     headed: bool,
@@ -34,7 +34,7 @@ pub(crate) fn no_line() -> Standing
 }
 
 // Where a record may stand: after the stages from low to high; and the stage that it leads to.
-#[derive(Drop)]
+#[derive(Clone, Copy)]
 pub(crate) struct Place {
     low: u8,
     high: u8,

@@ -18,14 +18,14 @@ use mechanism::part::OutlineSeg;
 use mechanism::{Mechanism, Outlines, Pairs, Parts};
 
 // What a text gives for each coordinate, T line by T line. Entries past sixteen are not kept, and a count of seventeen stands for any above sixteen.
-#[derive(Drop)]
+#[derive(Clone, Copy)]
 pub struct Entries {
     pub count: usize,
     pub entry: [Entry; 16],
 }
 
 // What a text says: whether it is accepted, and if so the description, the margin and the entries of the pose. With a refusal come blank ones.
-#[derive(Drop)]
+#[derive(Clone, Copy)]
 pub struct Sheet {
     pub checked: Checked,
     pub mechanism: Mechanism,

@@ -6,14 +6,14 @@ use mechanism::part::SurfaceRef;
 use text::records::Record;
 
 // One side of the last pair: its S lines, and the segments of its ranges.
-#[derive(Drop)]
+#[derive(Clone, Copy)]
 pub(crate) struct Side {
     pub(crate) ranges: usize,
     pub(crate) segs: usize,
 }
 
 // The lines so far: the coordinates that M gives, the J, P, K and S lines, the segments of the last part and of all parts.
-#[derive(Drop)]
+#[derive(Clone, Copy)]
 pub(crate) struct Tally {
     pub(crate) coords: usize,
     pub(crate) bodies: usize,

@@ -26,7 +26,7 @@ use sides::SideFeatures;
 use sides::contacts::{PairFeatures, pair_features_at};
 
 // How many rows were written, or the first refusal that applies.
-#[derive(Drop)]
+#[derive(Clone, Copy)]
 pub struct RowsAnswer {
     pub checked: Checked,
     pub count: usize,

@@ -16,14 +16,14 @@ use mechanism::pair::{ContactPair, PairGeometry};
 use mechanism::{Mechanism, Outlines, Pairs, Parts};
 
 // A pair's two sides.
-#[derive(Drop)]
+#[derive(Clone, Copy)]
 pub struct PairFeatures {
     pub a: SideFeatures,
     pub b: SideFeatures,
 }
 
 // Whether a description is accepted, and where it is the features of its first `count` pairs, in order.
-#[derive(Drop)]
+#[derive(Clone, Copy)]
 pub struct Contacts {
     pub checked: Checked,
     pub count: usize,

@@ -29,46 +29,46 @@ use mechanism::{Outlines, Parts};
 use silhouette::rows::silhouette_seg;
 use silhouette::{MaybeAxis, SilhouetteSegs, axis, silhouette_at, start_of_part};
 
-#[derive(Drop)]
+#[derive(Clone, Copy)]
 enum MaybePoint {
     NoPoint,
     SomePoint(Point),
 }
 
-#[derive(Drop)]
+#[derive(Clone, Copy)]
 pub struct PlacedFace {
     pub piece: Piece,
     pub face: Face,
 }
 
-#[derive(Drop)]
+#[derive(Clone, Copy)]
 pub struct PlacedDisc {
     pub piece: Piece,
     pub disc: Disc,
 }
 
-#[derive(Drop)]
+#[derive(Clone, Copy)]
 pub struct PlacedPoint {
     pub piece: Piece,
     pub point: Point,
 }
 
 // A segment as the material runs, its number in the silhouette, and the number of the segment that is drawn from where it starts.
-#[derive(Drop)]
+#[derive(Clone, Copy)]
 struct Step {
     named: usize,
     starts: usize,
     seg: MaybeSeg,
 }
 
-#[derive(Drop)]
+#[derive(Clone, Copy)]
 struct Steps {
     count: usize,
     step: [Step; 12],
 }
 
 // One range, as the material that it bounds runs.
-#[derive(Drop)]
+#[derive(Clone, Copy)]
 struct Traversal {
     part: usize,
     cut: bool,
@@ -80,14 +80,14 @@ struct Traversal {
     ends: usize,
 }
 
-#[derive(Drop)]
+#[derive(Clone, Copy)]
 struct Traversals {
     count: usize,
     traversal: [Traversal; 4],
 }
 
 // Faces and discs as they are found.
-#[derive(Drop)]
+#[derive(Clone, Copy)]
 struct Features {
     faces: usize,
     face: [PlacedFace; 12],
@@ -96,7 +96,7 @@ struct Features {
 }
 
 // One side of a pair, in its body's frame: its straight segments, its arcs and convex vertices, and the centre of its drawn face.
-#[derive(Drop)]
+#[derive(Clone, Copy)]
 pub struct SideFeatures {
     pub body: usize,
     pub faces: usize,

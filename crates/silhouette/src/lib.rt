@@ -16,20 +16,20 @@ use mechanism::part::{OutlineSeg, Sweep};
 use mechanism::{Outlines, Parts};
 
 // A part's outline: the first `count` segments.
-#[derive(Drop)]
+#[derive(Clone, Copy)]
 pub struct Outline {
     pub count: usize,
     pub seg: [OutlineSeg; 48],
 }
 
 // A part as the section sees it: the first `count` segments.
-#[derive(Drop)]
+#[derive(Clone, Copy)]
 pub struct SilhouetteSegs {
     pub count: usize,
     pub seg: [OutlineSeg; 94],
 }
 
-#[derive(Drop)]
+#[derive(Clone, Copy)]
 pub enum MaybeAxis {
     SomeAxis(f64),
     NoAxis,

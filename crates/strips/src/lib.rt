@@ -31,7 +31,7 @@ pub type SideRow = [usize; 7];
 pub type ChoiceRow = [u8; 32];
 
 // What a part's row says: a first row above 65,535 is read as 65,535, and no more points count than any silhouette has.
-#[derive(Drop)]
+#[derive(Clone, Copy)]
 pub struct PartFacts {
     pub body: usize,
     pub drawn: usize,
@@ -41,7 +41,7 @@ pub struct PartFacts {
 }
 
 // What a side's row says: a first row above 65,535 is read as 65,535, and no more than twelve faces and twenty-eight discs count.
-#[derive(Drop)]
+#[derive(Clone, Copy)]
 pub struct SideFacts {
     pub body: usize,
     pub face: usize,

@@ -154,7 +154,7 @@ fn put_sampled(
 }
 
 // Where the next part's points go.
-#[derive(Drop)]
+#[derive(Clone, Copy)]
 struct Next {
     drawn: usize,
     sampled: usize,

@@ -4,14 +4,14 @@ ghost use Rattle.text.specs.Pieces.{piece_end, fields_of};
 ghost use Rattle.text.specs.Fields.{is_digit, written, number_of, hex_of, is_hex, float_of, letter_of, is_whole, whole_or_0, is_real, real_or_0, is_role, is_kind, fits_form, field_at, number_at, real_at, letter_at};
 
 // A whole number that was read.
-#[derive(Drop)]
+#[derive(Clone, Copy)]
 pub enum Whole {
     Number(usize),
     NoNumber,
 }
 
 // A float that was read.
-#[derive(Drop)]
+#[derive(Clone, Copy)]
 pub enum Real {
     Value(f64),
     NoValue,

@@ -10,7 +10,7 @@ use geometry::{Dir, Point, Seg};
 use mechanism::pair::PairGeometry;
 use mechanism::part::{Role, SurfaceRef, Sweep};
 
-#[derive(Drop)]
+#[derive(Clone, Copy)]
 pub enum Record {
     // M
     Coords(usize),
