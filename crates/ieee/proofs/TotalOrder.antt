@@ -173,6 +173,8 @@ equal_datum (fin true m e) (fin true n d) p q h f g = same-datum true m e n d p 
 equal_datum (fin false m e) (fin false n d) p q h f g = same-datum false m e n d p q (eqb→eq (m * up e * down d) (n * up d * down e) (and_l (eqb (m * up e * down d) (n * up d * down e)) true h))
 equal_datum (fin true m e) (fin false n d) p q h f g = absurd (clash (is_zero false (fin false n d) && is_zero true (fin true m e)) g (unlike m e n d h))
 equal_datum (fin false m e) (fin true n d) p q h f g = absurd (clash (is_zero false (fin false m e) && is_zero true (fin true n d)) f (unlike n d m e (eq-sym (fin false m e) (fin true n d) h)))
+equal_datum (inf false) (inf true) p q h f g = elim h [ ]
+equal_datum (inf true) (inf false) p q h f g = elim h [ ]
 
 nan_is : (x : Float) → T (is_nan x) → x ≡ nan
 unfolding is_nan

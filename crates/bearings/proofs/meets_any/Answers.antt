@@ -1,0 +1,35 @@
+use native.Mathlib.Omega.{arith}
+use Prim.Native.Nat.{◌-◌}
+use mathlib.Core.Path.{sym, ◌∙◌}
+use Rattle.candidates.proofs.Sides.{left-yes, left-no, left-none}
+use Rattle.bearings.specs.Bearing.{meets_row}
+use Rattle.bearings.proofs.meets_any.Goals as goal
+
+pub offset_bounds-ends-i : goal.offset_bounds-ends-i
+offset_bounds-ends-i c = let h = c.requires in omega arith
+
+pub bounds-ends-i : goal.bounds-ends-i
+bounds-ends-i c = let h = c.requires in omega arith
+
+pub overflow_add-i : goal.overflow_add-i
+overflow_add-i c = let h = c.requires in omega arith
+
+pub returns-then-at_end : goal.returns-then-at_end
+returns-then-at_end c =
+    let s = c in
+    let loop = c.loop-i in
+    sym (left-yes s.args.ends.now s.args.n loop.i s.requires (meets_row s.args.f) [] c.loop-i-test.true
+    (sym c.at_end.ensures ∙ c.if-at_end.true)) ∙ loop.invariant
+
+pub loop-i-preserved : goal.loop-i-preserved
+loop-i-preserved c =
+    let s = c in
+    let loop = c.loop-i in
+    sym (left-no s.args.ends.now s.args.n loop.i s.requires (meets_row s.args.f) [] c.loop-i-test.true
+    (sym c.at_end.ensures ∙ c.if-at_end.false)) ∙ loop.invariant
+
+pub returns : goal.returns
+returns c =
+    let s = c in
+    let loop = c.loop-i in
+    sym (left-none s.args.ends.now s.args.n loop.i s.requires (meets_row s.args.f) c.loop-i-test.false) ∙ loop.invariant

@@ -1,0 +1,71 @@
+use native.Mathlib.Omega.{arith}
+use Prim.Native.Nat.{◌-◌}
+use mathlib.Core.Path.{sym, ap, ◌∙◌}
+use lib.ListN.{take}
+use Rattle.laws.specs.Lists.{any}
+use Rattle.candidates.proofs.Sides.{no_face}
+use Rattle.bearings.specs.Bearing.{meets_row, score_of}
+use Rattle.bearings.specs.declared.MaybeFace.TheVariants.{SomeFace}
+use Rattle.bearings.proofs.Best.{walked_start, walked_takes, walked_stays, walked_skips, walked_some, walked_none}
+use Rattle.bearings.proofs.Rows.{placed_face, list_long, list_all, part-read}
+use Rattle.bearings.proofs.prepared.best_face.Goals as goal
+
+pub loop-i-init : goal.loop-i-init
+loop-i-init c = walked_start _ _ _ _ _
+
+pub overflow_add-first : goal.overflow_add-first
+overflow_add-first c = let p = c.requires in omega arith
+
+pub overflow_add-i : goal.overflow_add-i
+overflow_add-i c = let p = c.requires in omega arith
+
+pub meets_any-requires : goal.meets_any-requires
+meets_any-requires c = c.requires.0
+
+pub loop-i-preserved-then-best-n : goal.loop-i-preserved-then-best-n
+loop-i-preserved-then-best-n c =
+    let a = c.args in
+    let loop = c.loop-i in
+    let h = c.loop-i-test.true in
+    let f = placed_face a.faces.now a.names.now a.first in
+    let g = part-read f a.n (λ x. x.face) no_face loop.i h c.face_at-f.ensures in
+    let meets = ap (λ x. any (meets_row x) (take a.m a.ends.now)) (sym g) ∙ sym c.Meets-any.ensures ∙ c.if-meets_any.true in
+    walked_takes loop.invariant (list_long f a.n) h meets (c.score-x.ensures ∙ ap (score_of a.k) g) c.total_order.ensures c.if-best-n.true
+
+pub loop-i-preserved-else-best-n : goal.loop-i-preserved-else-best-n
+loop-i-preserved-else-best-n c =
+    let a = c.args in
+    let loop = c.loop-i in
+    let h = c.loop-i-test.true in
+    let f = placed_face a.faces.now a.names.now a.first in
+    let g = part-read f a.n (λ x. x.face) no_face loop.i h c.face_at-f.ensures in
+    let meets = ap (λ x. any (meets_row x) (take a.m a.ends.now)) (sym g) ∙ sym c.Meets-any.ensures ∙ c.if-meets_any.true in
+    walked_stays loop.invariant (list_long f a.n) h meets (c.score-x.ensures ∙ ap (score_of a.k) g) c.total_order.ensures c.if-best-n.false
+
+pub loop-i-preserved : goal.loop-i-preserved
+loop-i-preserved c =
+    let a = c.args in
+    let loop = c.loop-i in
+    let h = c.loop-i-test.true in
+    let f = placed_face a.faces.now a.names.now a.first in
+    let g = part-read f a.n (λ x. x.face) no_face loop.i h c.face_at-f.ensures in
+    let meets = ap (λ x. any (meets_row x) (take a.m a.ends.now)) (sym g) ∙ sym c.Meets-any.ensures ∙ c.if-meets_any.false in
+    walked_skips loop.invariant (list_long f a.n) h meets
+
+pub overflow_add-first-then-best-n-2 : goal.overflow_add-first-then-best-n-2
+overflow_add-first-then-best-n-2 c = let p = c.requires in omega arith
+
+pub returns-then-best-n-2 : goal.returns-then-best-n-2
+returns-then-best-n-2 c =
+    let a = c.args in
+    let loop = c.loop-i in
+    let h = c.if-best-n-2.true in
+    let f = placed_face a.faces.now a.names.now a.first in
+    ap SomeFace (part-read f a.n (λ x. x.face) no_face loop.best h c.face_at.ensures)
+    ∙ walked_some loop.invariant (list_long f a.n) (list_all f a.n) c.loop-i-test.false h
+
+pub returns : goal.returns
+returns c =
+    let a = c.args in
+    let f = placed_face a.faces.now a.names.now a.first in
+    walked_none c.loop-i.invariant (list_long f a.n) (list_all f a.n) c.loop-i-test.false c.if-best-n-2.false

@@ -1,0 +1,68 @@
+use native.Mathlib.Omega.{arith}
+use Prim.Native.Nat.{◌-◌}
+use mathlib.Core.Path.{ap, ◌∙◌}
+use Rattle.candidates.proofs.Sides.{no_disc}
+use Rattle.bearings.specs.Bearing.{start_of_disc, end_of_disc}
+use Rattle.bearings.proofs.Ends.{put-start, put_two, put-no, put-long, put-room, put-done}
+use Rattle.bearings.proofs.Rows.{placed_disc, list_long, list_all, part-read, same_read}
+use Rattle.bearings.proofs.prepared.put_ends.Goals as goal
+
+pub loop-i-init : goal.loop-i-init
+loop-i-init c = put-start _ _ _ _
+
+pub overflow_add-k : goal.overflow_add-k
+overflow_add-k c = let p = c.requires in omega arith
+
+pub overflow_add-i : goal.overflow_add-i
+overflow_add-i c = let p = c.requires in omega arith
+
+pub offset_bounds-ends-at : goal.offset_bounds-ends-at
+offset_bounds-ends-at c =
+    let p = c.requires.2 in
+    let f = c.loop-i.invariant.few in
+    omega arith
+
+pub bounds-ends-at : goal.bounds-ends-at
+bounds-ends-at c =
+    let p = c.requires.2 in
+    let r = c.requires.0 in
+    let w = c.loop-i.invariant in
+    let f = w.few in
+    let l = put-long w in
+    omega arith
+
+pub bounds-ends-at-then-same_piece : goal.bounds-ends-at-then-same_piece
+bounds-ends-at-then-same_piece c = let p = c.requires in put-room c.loop-i.invariant _ p.2 c.loop-i-test.true p.0
+
+pub overflow_add-at-then-same_piece : goal.overflow_add-at-then-same_piece
+overflow_add-at-then-same_piece c =
+    let p = c.requires.2 in
+    let f = c.loop-i.invariant.few in
+    omega arith
+
+pub loop-i-preserved-then-same_piece : goal.loop-i-preserved-then-same_piece
+loop-i-preserved-then-same_piece c =
+    let a = c.args in
+    let loop = c.loop-i in
+    let h = c.loop-i-test.true in
+    let f = placed_disc a.discs.now a.names.now a.first in
+    let same = same_read f a.n a.piece (λ x. x.piece) no_disc loop.i h c.piece_at.ensures c.same_piece.ensures c.if-same_piece.true in
+    let d = part-read f a.n (λ x. x.disc) no_disc loop.i h c.disc_at-d.ensures in
+    put_two loop.invariant no_disc (list_long f a.n) h same (c.on_circle-a.ensures ∙ ap start_of_disc d) (c.on_circle-b.ensures ∙ ap end_of_disc d)
+
+pub loop-i-preserved : goal.loop-i-preserved
+loop-i-preserved c =
+    let a = c.args in
+    let loop = c.loop-i in
+    let h = c.loop-i-test.true in
+    let f = placed_disc a.discs.now a.names.now a.first in
+    put-no loop.invariant no_disc (list_long f a.n) h (same_read f a.n a.piece (λ x. x.piece) no_disc loop.i h c.piece_at.ensures c.same_piece.ensures c.if-same_piece.false)
+
+pub shape_of-ends : goal.shape_of-ends
+shape_of-ends c = put-long c.loop-i.invariant
+
+pub returns : goal.returns
+returns c =
+    let a = c.args in
+    let f = placed_disc a.discs.now a.names.now a.first in
+    put-done c.loop-i.invariant c.requires.2 (list_long f a.n) (list_all f a.n) c.loop-i-test.false

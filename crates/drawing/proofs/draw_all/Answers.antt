@@ -1,0 +1,91 @@
+use native.Mathlib.Omega.{arith}
+use Prim.Native.Nat.{ℕ, ◌+◌, ◌-◌}
+use mathlib.Core.Path.{refl, sym, ap, ap₂, ◌∙◌}
+use borrow.Author.Tests.{eq-eqb, ne_eqb}
+use Rattle.laws.specs.Loops.{fold_in}
+use Rattle.laws.proofs.Sums.{sum_more}
+use Rattle.mechanism.specs.Description.{segs_of}
+use Rattle.drawing.proofs.Draws.{draws_start, draws_room, draws_place, draws_more, draws_skip, draws_at, draws_count, draws_points, draws_starts, asks_polygon, polygon_drawn}
+use Rattle.drawing.proofs.draw_all.Goals as goal
+
+pub loop-i-init : goal.loop-i-init
+unfolding fold_in
+loop-i-init c = (refl, draws_start _ _ _ _ _ _ _ _ _)
+
+pub offset_bounds-ps-j : goal.offset_bounds-ps-j
+offset_bounds-ps-j c = let h = c.requires.0.count in omega arith
+
+pub bounds-ps-j : goal.bounds-ps-j
+bounds-ps-j c = let h = c.requires.0.count in omega arith
+
+pub overflow_add-i : goal.overflow_add-i
+overflow_add-i c = let h = c.requires.0.count in omega arith
+
+pub overflow_add-first : goal.overflow_add-first
+overflow_add-first c =
+    let l = c.loop-i in
+    let h = c.requires.0.all l.i c.loop-i-test.true in
+    let e = l.invariant.0 in
+    omega arith
+
+pub bounds-c-j : goal.bounds-c-j
+bounds-c-j c = let h = c.requires.0.count in omega arith
+
+pub draw_polygon-at-requires : goal.draw_polygon-at-requires
+draw_polygon-at-requires c =
+    let l = c.loop-i in
+    let s = c in
+    let h = c.loop-i-test.true in
+    asks_polygon s.args.segs.now s.args.ps s.args.q s.requires.0 h l.invariant.0 l.at l.points s.requires.1 (draws_room _ _ _ _ _ l.invariant.1 h (eq-eqb _ _ c.if-c-j.true) s.requires.2)
+
+pub overflow_add-k : goal.overflow_add-k
+overflow_add-k c =
+    let l = c.loop-i in
+    let s = c in
+    let p = draws_place _ _ _ _ _ l.invariant.1 c.loop-i-test.true (eq-eqb _ _ c.if-c-j.true) s.requires.3 in
+    omega arith
+
+pub offset_bounds-starts-k : goal.offset_bounds-starts-k
+offset_bounds-starts-k c =
+    let l = c.loop-i in
+    let s = c in
+    let p = draws_place _ _ _ _ _ l.invariant.1 c.loop-i-test.true (eq-eqb _ _ c.if-c-j.true) s.requires.3 in
+    omega arith
+
+pub bounds-starts-k : goal.bounds-starts-k
+bounds-starts-k c =
+    let l = c.loop-i in
+    let s = c in
+    let p = draws_place _ _ _ _ _ l.invariant.1 c.loop-i-test.true (eq-eqb _ _ c.if-c-j.true) s.requires.3 in
+    omega arith
+
+pub loop-i-preserved-then-c-j : goal.loop-i-preserved-then-c-j
+loop-i-preserved-then-c-j c =
+    let l = c.loop-i in
+    let s = c in
+    let h = c.loop-i-test.true in
+    let ps = s.args.ps in (
+      ap (λ (n : ℕ). n + segs_of ps l.i) l.invariant.0 ∙ sym (sum_more (segs_of ps) l.i),
+      draws_more _ _ _ _ _ l.invariant.1 h (eq-eqb _ _ c.if-c-j.true) (polygon_drawn s.args.segs.now ps s.args.q s.requires.0 h l.invariant.0 l.at l.points _ c.placement_at.ensures c.draw_polygon-at.ensures),
+    )
+
+pub loop-i-preserved : goal.loop-i-preserved
+loop-i-preserved c =
+    let l = c.loop-i in
+    let ps = c.args.ps in
+    (ap (λ (n : ℕ). n + segs_of ps l.i) l.invariant.0 ∙ sym (sum_more (segs_of ps) l.i), draws_skip _ _ _ _ _ l.invariant.1 c.loop-i-test.true (ne_eqb _ _ c.if-c-j.false))
+
+pub shape_of-points : goal.shape_of-points
+shape_of-points c = c.loop-i.invariant.1.drawn.long
+
+pub shape_of-starts : goal.shape_of-starts
+shape_of-starts c = c.loop-i.invariant.1.marked.long
+
+pub returns : goal.returns
+returns c =
+    let l = c.loop-i in
+    let h = c.loop-i-test.false in (
+      ap₂ (λ n m. record { at = n; count = m }) (draws_at _ _ _ _ _ l.invariant.1 h) (draws_count _ _ _ _ _ l.invariant.1 h),
+      draws_points _ _ _ _ _ l.invariant.1 h,
+      draws_starts _ _ _ _ _ l.invariant.1 h,
+    )

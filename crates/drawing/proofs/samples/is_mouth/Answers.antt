@@ -1,0 +1,33 @@
+use native.Mathlib.Omega.{arith}
+use Prim.Native.Nat.{◌-◌}
+use mathlib.Core.Path.{sym, ap, ◌∙◌}
+use native.Mathlib.Nat.{sub-zero}
+use lib.ListN.{length, get_or}
+use Rattle.laws.specs.Lists.{list_in, any}
+use Rattle.laws.proofs.Lists.{list_map, any-yes, any-no, any-done}
+use Rattle.drawing.specs.Samples.{same_ends, mouth_in}
+use Rattle.drawing.proofs.samples.is_mouth.Goals as goal
+
+pub loop-i-init : goal.loop-i-init
+loop-i-init c =
+    let s = c.args in
+    ap (λ k. any (same_ends (record { a = s.a; b = s.b })) (list_in (λ j. mouth_in (get_or s.mouths.now j [])) k 0)) (sub-zero (length s.mouths.now))
+    ∙ ap (any (same_ends (record { a = s.a; b = s.b }))) (sym (list_map mouth_in s.mouths.now []))
+
+pub returns-then-same_ends : goal.returns-then-same_ends
+returns-then-same_ends c =
+    let l = c.loop-i in
+    let s = c.args in
+    sym (any-yes (same_ends (record { a = s.a; b = s.b })) (λ j. mouth_in (get_or s.mouths.now j [])) (length s.mouths.now) l.i (omega arith) (sym c.same_ends.ensures ∙ c.if-same_ends.true)) ∙ l.invariant
+
+pub loop-i-preserved : goal.loop-i-preserved
+loop-i-preserved c =
+    let l = c.loop-i in
+    let s = c.args in
+    sym (any-no (same_ends (record { a = s.a; b = s.b })) (λ j. mouth_in (get_or s.mouths.now j [])) (length s.mouths.now) l.i (omega arith) (sym c.same_ends.ensures ∙ c.if-same_ends.false)) ∙ l.invariant
+
+pub returns : goal.returns
+returns c =
+    let l = c.loop-i in
+    let s = c.args in
+    sym (any-done (same_ends (record { a = s.a; b = s.b })) (λ j. mouth_in (get_or s.mouths.now j [])) (length s.mouths.now) l.i (omega arith)) ∙ l.invariant

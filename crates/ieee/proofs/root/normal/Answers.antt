@@ -1,0 +1,21 @@
+use native.Mathlib.Omega.{arith}
+use Rattle.ieee.proofs.Result.{normal_m, normal_j, normal_range, normal_moved, result_is, result_no_nan}
+use Rattle.ieee.proofs.root.normal.Goals as goal
+
+pub overflow_mul-m : goal.overflow_mul-m
+overflow_mul-m c = let r = normal_range c.args.b c.requires.0 c.requires.1 in omega arith
+
+pub significand-q-requires : goal.significand-q-requires
+significand-q-requires c = let s = c in (normal_range s.args.b s.requires.0 s.requires.1, c.guess.ensures)
+
+pub float_from_bits-result : goal.float_from_bits-result
+float_from_bits-result c =
+    let s = c in
+    let b = s.args.b in
+    result_no_nan b (normal_m b) (normal_j b) c.significand-q.result (omega arith) s.requires.1 (normal_moved b s.requires.0 s.requires.1) c.significand-q.ensures
+
+pub returns : goal.returns
+returns c =
+    let s = c in
+    let b = s.args.b in
+    result_is b (normal_m b) (normal_j b) c.significand-q.result (omega arith) s.requires.1 (normal_moved b s.requires.0 s.requires.1) c.significand-q.ensures

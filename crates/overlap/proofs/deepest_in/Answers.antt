@@ -1,0 +1,31 @@
+use Prim.Native.Nat.{◌-◌}
+use native.Mathlib.Nat.{sub-zero}
+use native.Mathlib.Omega.{arith}
+use mathlib.Core.Path.{◌≡◌, sym, ap, ◌∙◌}
+use lib.ListN.{length}
+use Rattle.laws.proofs.Lists.{fold_on, fold_done}
+use Rattle.ieee.specs.Num.{max_of}
+use Rattle.material.specs.Material.{material_of, square_depth, deepest_square}
+use Rattle.material.proofs.Outside.{within-square}
+use Rattle.material.proofs.Parts.{row_point, points_of-rows}
+use Rattle.overlap.proofs.deepest_in.Goals as goal
+
+pub loop-i-init : goal.loop-i-init
+loop-i-init c = (omega arith, rw sub-zero)
+
+pub loop-i-preserved : goal.loop-i-preserved
+loop-i-preserved c =
+    let l = c.loop-i in
+    let a = c in
+    let s = a.args in
+    let m = material_of s.points.now s.starts.now s.n.solids s.n.all in
+    let e : max_of l.d (square_depth m (row_point s.samples.now l.i)) ≡ c.deeper_square-d.result =
+    sym (c.deeper_square-d.ensures ∙ ap (max_of l.d) (within-square s.points.now s.starts.now s.n.solids s.n.all _ s.range a.requires)) in
+    (omega arith, fold_on (λ x p. max_of x (square_depth m p)) (row_point s.samples.now) (length s.samples.now) l.i (omega arith) e ∙ l.invariant.1)
+
+pub returns : goal.returns
+returns c =
+    let l = c.loop-i in
+    let s = c.args in
+    let m = material_of s.points.now s.starts.now s.n.solids s.n.all in
+    sym (fold_done (λ x p. max_of x (square_depth m p)) (row_point s.samples.now) l.d (length s.samples.now) l.i (omega arith)) ∙ l.invariant.1 ∙ ap (deepest_square m s.from) (sym (points_of-rows s.samples.now))

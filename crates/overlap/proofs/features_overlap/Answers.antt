@@ -1,0 +1,16 @@
+use mathlib.Core.Path.{ap, ap₂, ◌∙◌}
+use Rattle.ieee.specs.Consts.{zero_f}
+use Rattle.ieee.specs.Num.{max_of}
+use Rattle.mechanism.specs.Segments.{outlines_in}
+use Rattle.overlap.specs.Overlap.{owner_in}
+use Rattle.overlap.proofs.Pairwise.{sunk_side}
+use Rattle.overlap.proofs.features_overlap.Goals as goal
+
+pub returns : goal.returns
+returns c =
+    let s = c in
+    let both = c.sunk_both-s.ensures in
+    c.max-2.ensures
+    ∙ ap₂ max_of
+    (c.max.ensures ∙ ap (max_of zero_f) (sunk_side s.args.ps (outlines_in s.args.segs.now) s.args.q s.requires.0 (owner_in s.args.ps s.args.a) s.args.b both.0 c.side_owners.ensures c.side_chosen-2.ensures))
+    (sunk_side s.args.ps (outlines_in s.args.segs.now) s.args.q s.requires.0 (owner_in s.args.ps s.args.b) s.args.a both.1 c.side_owners-2.ensures c.side_chosen.ensures)

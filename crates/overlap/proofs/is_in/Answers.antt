@@ -1,0 +1,34 @@
+use native.Mathlib.Omega.{arith}
+use native.Mathlib.Nat.{sub-zero}
+use Prim.Native.Nat.{◌-◌}
+use mathlib.Core.Path.{sym, ap, ◌∙◌}
+use lib.Dec.{eqb}
+use lib.ListN.{length, get_or}
+use borrow.Author.Tests.{eq-eqb, ne_eqb}
+use Rattle.laws.specs.Lists.{list_in, any}
+use Rattle.laws.proofs.Lists.{any-yes, any-no, any-done}
+use Rattle.overlap.proofs.Flags.{list_of}
+use Rattle.overlap.proofs.is_in.Goals as goal
+
+pub loop-j-init : goal.loop-j-init
+loop-j-init c =
+    let s = c.args in
+    ap (λ k. any (λ x. eqb x s.i) (list_in (λ n. get_or s.l.now n 0) k 0)) (sub-zero (length s.l.now)) ∙ ap (any (λ x. eqb x s.i)) (list_of s.l.now)
+
+pub returns-then-x-i : goal.returns-then-x-i
+returns-then-x-i c =
+    let l = c.loop-j in
+    let s = c.args in
+    sym (any-yes (λ x. eqb x s.i) (λ n. get_or s.l.now n 0) (length s.l.now) l.j (omega arith) (eq-eqb _ _ c.if-x-i.true)) ∙ l.invariant
+
+pub loop-j-preserved : goal.loop-j-preserved
+loop-j-preserved c =
+    let l = c.loop-j in
+    let s = c.args in
+    sym (any-no (λ x. eqb x s.i) (λ n. get_or s.l.now n 0) (length s.l.now) l.j (omega arith) (ne_eqb _ _ c.if-x-i.false)) ∙ l.invariant
+
+pub returns : goal.returns
+returns c =
+    let l = c.loop-j in
+    let s = c.args in
+    sym (any-done (λ x. eqb x s.i) (λ n. get_or s.l.now n 0) (length s.l.now) l.j (omega arith)) ∙ l.invariant

@@ -1,0 +1,32 @@
+use native.Mathlib.Omega.{arith}
+use mathlib.Core.Path.{refl}
+use lib.ListN.{replicate}
+use Rattle.ieee.specs.Consts.{zero_f}
+use Rattle.mechanism.specs.Segments.{outlines_in}
+use Rattle.mechanism.proofs.Known.{outlines-long}
+use Rattle.drawing.proofs.Laid.{counted-few}
+use Rattle.overlap.proofs.Pairwise.{sunk_parts, parts-both}
+use Rattle.overlap.proofs.Same.{put-asks, parts-put}
+use Rattle.overlap.proofs.overlap_of_parts.Goals as goal
+
+pub sunk_both-s-requires : goal.sunk_both-s-requires
+sunk_both-s-requires c =
+    let s = c in
+    let k = c.segs_counted.ensures in
+    let n = counted-few s.args.ps s.requires.0 in
+    let a = put-asks s.args.ps s.args.o (replicate 384 (replicate 8 zero_f)) 384 refl k k.1 c.put_segs.ensures in
+    let x = a.0 in
+    let y = a.1 in
+    let z = a.2 in
+    (s.requires.0, omega (arith, n, x), omega (arith, n, y), omega (arith, n, z))
+
+pub returns : goal.returns
+returns c =
+    let s = c in
+    let k = c.segs_counted.ensures in
+    let o = outlines_in c.put_segs.new.0 in
+    let two = c.sunk_both-s.ensures in
+    parts-put s.args.ps s.args.o (replicate 384 (replicate 8 zero_f)) (outlines-long s.args.o _ s.well_formed.1.0) k k.1 c.put_segs.ensures s.args.q s.args.a.now s.args.b.now
+    (parts-both s.args.ps o s.args.q s.args.a.now s.args.b.now c.max.ensures
+    (sunk_parts s.args.ps o s.args.q s.requires.0 s.args.a.now s.args.b.now s.requires.1 s.requires.2 two.0 c.list_owners-wa.ensures c.owners_chosen-2.ensures c.list_owners-wb.ensures)
+    (sunk_parts s.args.ps o s.args.q s.requires.0 s.args.b.now s.args.a.now s.requires.2 s.requires.1 two.1 c.list_owners-wb.ensures c.owners_chosen.ensures c.list_owners-wa.ensures))

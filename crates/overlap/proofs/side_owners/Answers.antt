@@ -1,0 +1,25 @@
+use native.Mathlib.Omega.{arith}
+use Prim.Native.Nat.{◌-◌}
+use mathlib.Core.Path.{refl, ap, ap₂}
+use mathlib.Core.Bool.{◌&&◌}
+use Rattle.laws.proofs.Fill.{fill_from, fill_put}
+use Rattle.overlap.specs.Overlap.{owner_in}
+use Rattle.overlap.proofs.Flags.{flag_turn, flags_done}
+use Rattle.overlap.proofs.side_owners.Goals as goal
+
+pub loop-i-init : goal.loop-i-init
+loop-i-init c = (omega arith, fill_from refl refl)
+
+pub bounds-is-i : goal.bounds-is-i
+bounds-is-i c = let k = c.loop-i.invariant.1.long in omega arith
+
+pub loop-i-preserved : goal.loop-i-preserved
+loop-i-preserved c =
+    let l = c.loop-i in
+    let s = c.args in
+    (omega arith, fill_put (omega arith) (flag_turn (owner_in s.ps s.u) l.i _ (omega arith) (ap₂ ◌&&◌ c.is_own.ensures c.is_sampled.ensures)) l.invariant.1)
+
+pub returns : goal.returns
+returns c =
+    let s = c.args in
+    ap (λ l. record { is = l }) (flags_done (owner_in s.ps s.u) (omega arith) c.loop-i.invariant.1)

@@ -1,0 +1,73 @@
+use Prim.Native.Nat.{◌-◌}
+use native.Mathlib.Omega.{arith}
+use mathlib.Core.Path.{refl, sym, ap, ◌∙◌}
+use mathlib.Core.List.{map}
+use lib.ListN.{length-map}
+use lib.Seq.{length-take-le}
+use Rattle.mechanism.specs.Segments.{outlines_in}
+use Rattle.bodies.specs.Pose.{world_of}
+use Rattle.silhouette.specs.Silhouette.{silhouette_from}
+use Rattle.material.specs.Material.{material_of, deepest_square}
+use Rattle.drawing.specs.Drawing.{row_of}
+use Rattle.drawing.specs.Samples.{mouths_in, samples_of}
+use Rattle.drawing.proofs.Segments.{rows-count}
+use Rattle.overlap.proofs.Deepest.{segs_more, segs_end}
+use Rattle.overlap.proofs.Lent.{points_lent, written-long}
+use Rattle.overlap.proofs.sunk_part.Goals as goal
+
+pub loop-k-init : goal.loop-k-init
+loop-k-init c = (omega arith, refl, refl)
+
+pub overflow_add-k : goal.overflow_add-k
+overflow_add-k c = let e = c.silhouette_count-count.ensures.1 in omega arith
+
+pub slice_bounds-samples-end : goal.slice_bounds-samples-end
+slice_bounds-samples-end c =
+    let m = c.seg_samples-m.ensures in
+    let w = m.2 in
+    let a = c in
+    let k = written-long c.loop-k.samples (map row_of (map (world_of a.args.place) (samples_of (mouths_in a.args.mouths.now) c.silhouette_seg-s.result))) m.1 c.loop-k.invariant.1 in
+    omega (arith, w, k)
+
+pub slice_bounds-deepest_in-end : goal.slice_bounds-deepest_in-end
+slice_bounds-deepest_in-end c =
+    let m = c.seg_samples-m.ensures in
+    let w = m.2 in
+    let a = c in
+    let k = written-long c.loop-k.samples (map row_of (map (world_of a.args.place) (samples_of (mouths_in a.args.mouths.now) c.silhouette_seg-s.result))) m.1 c.loop-k.invariant.1 in
+    sym (length-take-le _ _ (omega (arith, w, k)))
+
+pub loop-k-smaller : goal.loop-k-smaller
+loop-k-smaller c = let e = c.silhouette_count-count.ensures.0 in omega arith
+
+pub loop-k-preserved : goal.loop-k-preserved
+loop-k-preserved c =
+    let l = c.loop-k in
+    let a = c in
+    let s = a.args in
+    let e = c.silhouette_count-count.ensures.0 in
+    let t = c.loop-k-test.true in
+    let made = c.seg_samples-m.ensures in
+    let k = rows-count s.segs.now s.first s.p a.requires.0 a.requires.1 in
+    let seg = c.silhouette_seg-s.result in
+    let xs = map (world_of s.place) (samples_of (mouths_in s.mouths.now) seg) in
+    let n = length-map (samples_of (mouths_in s.mouths.now) seg) (world_of s.place) in
+    let w = made.2 in
+    let z = made.0 in
+    let x = points_lent xs l.samples (made.0 ∙ sym n) made.1 (let y = l.invariant.1 in omega (arith, n, w, y, z)) in
+    let m = material_of s.points.now s.starts.now s.n.solids s.n.all in (
+      omega arith,
+      written-long l.samples (map row_of xs) made.1 l.invariant.1,
+      segs_more m (world_of s.place) (samples_of (mouths_in s.mouths.now)) _ l.d l.k (omega (arith, e, t, k)) c.silhouette_seg-s.ensures (c.deepest_in-d.ensures ∙ ap (deepest_square m l.d) x) ∙ l.invariant.2,
+    )
+
+pub returns : goal.returns
+returns c =
+    let l = c.loop-k in
+    let a = c in
+    let s = a.args in
+    let e = c.silhouette_count-count.ensures.0 in
+    let t = c.loop-k-test.false in
+    let k = rows-count s.segs.now s.first s.p a.requires.0 a.requires.1 in
+    let m = material_of s.points.now s.starts.now s.n.solids s.n.all in
+    sym (segs_end m (world_of s.place) (samples_of (mouths_in s.mouths.now)) (silhouette_from (outlines_in s.segs.now) s.first s.p) l.d l.k (omega (arith, e, t, k))) ∙ l.invariant.2

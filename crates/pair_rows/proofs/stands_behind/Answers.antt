@@ -1,0 +1,19 @@
+use native.Mathlib.Omega.{arith}
+use Prim.Native.Nat.{◌-◌}
+use mathlib.Core.Path.{◌∙◌}
+use borrow.Author.Tests.{eq-eqb, ne_eqb}
+use Rattle.pair_rows.proofs.Order.{stands-none, stands-hit, stands_on}
+use Rattle.pair_rows.proofs.stands_behind.Goals as goal
+
+pub returns-then-c-x : goal.returns-then-c-x
+returns-then-c-x c =
+    let l = c.loop-i in
+    stands-hit _ l.i (omega arith) _ (eq-eqb _ _ c.if-c-x.true) ∙ l.invariant
+
+pub loop-i-preserved : goal.loop-i-preserved
+loop-i-preserved c =
+    let l = c.loop-i in
+    stands_on _ l.i (omega arith) _ (ne_eqb _ _ c.if-c-x.false) ∙ l.invariant
+
+pub returns : goal.returns
+returns c = stands-none _ c.loop-i.i _ (omega arith) ∙ c.loop-i.invariant

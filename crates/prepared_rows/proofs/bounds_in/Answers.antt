@@ -1,0 +1,35 @@
+use native.Mathlib.Omega.{arith}
+use Prim.Native.Nat.{◌-◌}
+use mathlib.Core.Path.{◌≡◌, refl, ap, ◌∙◌}
+use Rattle.laws.specs.Loops.{fold_in}
+use Rattle.laws.proofs.Sums.{sum_more}
+use Rattle.mechanism.specs.Description.{sum_in}
+use Rattle.prepared_candidates.specs.Prepared.{bound_in}
+use Rattle.prepared_rows.proofs.bounds_in.Goals as goal
+
+pub loop-i-init : goal.loop-i-init
+unfolding fold_in
+loop-i-init c = (omega arith, refl, omega arith)
+
+pub overflow_add-sum : goal.overflow_add-sum
+overflow_add-sum c =
+    let v = c.loop-i.invariant in
+    let e = c.pair_bound_in-sum.ensures in
+    let p = c.requires in
+    omega (arith, v.0, v.2, e.1, p)
+
+pub loop-i-preserved : goal.loop-i-preserved
+loop-i-preserved c =
+    let l = c.loop-i in
+    let v = l.invariant in
+    let e = c.pair_bound_in-sum.ensures in
+    let s = sum_more (bound_in c.args.sides.now) l.i in
+    (omega arith, omega (arith, v.1, e.0, s), omega (arith, v.2, e.1))
+
+pub returns : goal.returns
+returns c =
+    let l = c.loop-i in
+    let v = l.invariant in
+    let a = c.args in
+    let n : l.i ≡ a.n = omega (arith, v.0, c.loop-i-test.false) in
+    (v.1 ∙ ap (λ k. sum_in (bound_in a.sides.now) k 0) n, omega (arith, v.0, v.2, c.requires))

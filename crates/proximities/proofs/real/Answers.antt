@@ -1,0 +1,11 @@
+use Rattle.proximities.proofs.real.Goals as goal
+
+pub returns-then-is_deep : goal.returns-then-is_deep
+returns-then-is_deep c =
+    let t1 = simp c.is_deep.ensures at c.if-is_deep.true in
+    simp (t1, c.holds.ensures)
+
+pub returns : goal.returns
+returns c =
+    let t1 = simp c.is_deep.ensures at c.if-is_deep.false in
+    simp t1

@@ -1,0 +1,20 @@
+use Rattle.reading.proofs.Over.{over-refused, over-ready, over-accepted}
+use Rattle.reading.proofs.prepared.read_posed.Goals as goal
+
+pub read_pairs-requires : goal.read_pairs-requires
+read_pairs-requires c =
+    let a = c.args in
+    let e = c.rows_in-a.ensures in
+    over-ready a.faces.now a.fnames.now a.discs.now a.dnames.now a.sides.now a.centers.now a.choices.now a.drawn.now a.sampled.now a.parts.now a.bodies a.pairs a.q a.margin a.places.now a.values.now a.grad.now a.slip.now e.0 c.in-Accepted.is e.1.0 e.1.1.0
+
+pub returns-in-Refused : goal.returns-in-Refused
+returns-in-Refused c =
+    let a = c.args in
+    let e = c.rows_in-a.ensures in
+    (over-refused a.faces.now a.fnames.now a.discs.now a.dnames.now a.sides.now a.centers.now a.choices.now a.drawn.now a.sampled.now a.parts.now a.bodies a.pairs a.q a.margin a.places.now a.values.now a.grad.now a.slip.now _ e.0 c.in-Refused.is c.refused.ensures, e.1)
+
+pub returns-in-Accepted : goal.returns-in-Accepted
+returns-in-Accepted c =
+    let a = c.args in
+    let e = c.rows_in-a.ensures in
+    (over-accepted a.faces.now a.fnames.now a.discs.now a.dnames.now a.sides.now a.centers.now a.choices.now a.drawn.now a.sampled.now a.parts.now a.bodies a.pairs a.q a.margin a.places.now a.values.now a.grad.now a.slip.now e.0 c.in-Accepted.is e.1.0 e.1.1.0 c.read_pairs.ensures, e.1)

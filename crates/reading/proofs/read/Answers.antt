@@ -1,0 +1,24 @@
+use Rattle.reading.proofs.Answer.{read_refused, ready, read_accepted}
+use Rattle.reading.proofs.read.Goals as goal
+
+pub read_pairs-requires : goal.read_pairs-requires
+read_pairs-requires c =
+    let s = c.args in
+    let e = c.rows_in_numbers-a.ensures in
+    ready s.m s.q s.margin s.places.now s.values.now s.grad.now s.slip.now e.0 c.in-Accepted.is e.1.0 e.1.1.0
+
+pub returns-in-Refused : goal.returns-in-Refused
+returns-in-Refused c =
+    let s = c.args in
+    let e = c.rows_in_numbers-a.ensures in
+    let r = read_refused s.m s.q s.margin s.places.now s.values.now s.grad.now s.slip.now in
+    (r _ e.0 c.in-Refused.is c.refused.ensures, e.1)
+
+pub returns-in-Accepted : goal.returns-in-Accepted
+returns-in-Accepted c =
+    let s = c.args in
+    let e = c.rows_in_numbers-a.ensures in
+    let told = c.in-Accepted.is in (
+      read_accepted s.m s.q s.margin s.places.now s.values.now s.grad.now s.slip.now e.0 told e.1.0 e.1.1.0 c.read_pairs.ensures,
+      e.1,
+    )

@@ -1,0 +1,19 @@
+use native.Mathlib.Omega.{arith}
+use Prim.Native.Nat.{◌-◌}
+use mathlib.Core.Path.{refl, ◌∙◌}
+use Rattle.reading_calls.proofs.turn_round.Goals as goal
+
+pub loop-i-init : goal.loop-i-init
+loop-i-init c = (omega arith, refl, refl)
+
+pub loop-i-preserved : goal.loop-i-preserved
+loop-i-preserved c =
+    let e = c.swap_rows.ensures in
+    let w = c.loop-i.invariant in
+    (omega arith, e.0 ∙ w.1, e.1 ∙ w.2)
+
+pub shape_of-places : goal.shape_of-places
+shape_of-places c = c.loop-i.invariant.1
+
+pub shape_of-values : goal.shape_of-values
+shape_of-values c = c.loop-i.invariant.2

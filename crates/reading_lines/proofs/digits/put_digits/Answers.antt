@@ -1,0 +1,24 @@
+use native.Mathlib.Omega.{arith}
+use native.Mathlib.Nat.{mod-lt}
+use Rattle.reading_lines.proofs.DigitLaws.{writes_start, writes_more, writes_end}
+use Rattle.reading_lines.proofs.digits.put_digits.Goals as goal
+
+pub loop-left-init : goal.loop-left-init
+loop-left-init c =
+    let args = c.args in
+    writes_start args.out.now args.at args.base args.n args.v
+
+pub digit-requires : goal.digit-requires
+digit-requires c =
+    let args = c.args in
+    let loop = c.loop-left in
+    omega (arith, mod-lt loop.rest {m = args.base} (omega arith))
+
+pub loop-left-preserved : goal.loop-left-preserved
+loop-left-preserved c = writes_more c.loop-left.invariant c.digit.result c.loop-left-test.true c.digit.ensures
+
+pub shape_of-out : goal.shape_of-out
+shape_of-out c = c.loop-left.invariant.long
+
+pub returns : goal.returns
+returns c = writes_end c.loop-left.invariant c.loop-left-test.false

@@ -1,0 +1,18 @@
+use Prim.Native.Nat.{◌-◌}
+use Rattle.reading_lines.proofs.LineLaws.{fields-start, fields-room, fields-more, fields-end}
+use Rattle.reading_lines.proofs.lines.float_fields.Goals as goal
+
+pub loop-i-init : goal.loop-i-init
+loop-i-init c = fields-start _ _ _ c.requires
+
+pub float_field-k-requires : goal.float_field-k-requires
+float_field-k-requires c = fields-room _ c.loop-i.invariant c.loop-i-test.true
+
+pub loop-i-preserved : goal.loop-i-preserved
+loop-i-preserved c = fields-more _ c.loop-i.invariant c.loop-i-test.true c.float_field-k.ensures
+
+pub shape_of-out : goal.shape_of-out
+shape_of-out c = c.loop-i.invariant.rest.long
+
+pub returns : goal.returns
+returns c = fields-end c.loop-i.invariant c.loop-i-test.false

@@ -1,0 +1,31 @@
+use native.Mathlib.Omega.{arith}
+use native.Mathlib.Nat.{sub-zero}
+use Prim.Native.Nat.{◌+◌, ◌-◌}
+use mathlib.Core.Path.{◌≡◌, refl, sym, ap, ◌∙◌}
+use mathlib.Core.List.{◌∷◌}
+use lib.ListN.{take}
+use Rattle.laws.specs.Lists.{list_in}
+use Rattle.laws.proofs.Lists.{list_turn, list_done}
+use Rattle.laws.proofs.Fill.{fill_from, fill_put, fill_end}
+use Rattle.record_rows.specs.Steps.{row_at}
+use Rattle.record_rows.proofs.records_from.Goals as goal
+
+pub loop-i-init : goal.loop-i-init
+loop-i-init c = (omega arith, fill_from refl (rw sub-zero))
+
+pub loop-i-preserved : goal.loop-i-preserved
+loop-i-preserved c =
+    let s = c in
+    let l = c.loop-i in
+    let turned = list_turn (row_at s.args.places.now s.args.values.now) s.args.n l.i (omega arith) in (
+      omega arith,
+      fill_put (omega arith) (turned ∙ ap (λ r. r ∷ list_in (row_at s.args.places.now s.args.values.now) (s.args.n - (l.i + 1)) (l.i + 1)) (sym c.row_from.ensures))
+          l.invariant.1,
+    )
+
+pub returns : goal.returns
+returns c =
+    let s = c in
+    let l = c.loop-i in
+    let e : l.i ≡ s.args.n = omega arith in
+    (refl, ap (λ k. take k l.row) (sym e) ∙ fill_end (list_done (row_at s.args.places.now s.args.values.now) s.args.n l.i (omega arith)) l.invariant.1)

@@ -1,0 +1,5 @@
+use Rattle.sheet.proofs.limits.more_side.Goals as goal
+
+pub returns : goal.returns
+returns c =
+    simp c.Span-of.ensures

@@ -1,0 +1,29 @@
+use Prim.Native.Nat.{◌+◌, ◌≤◌, ◌-◌}
+use native.Mathlib.Omega.{arith}
+use mathlib.Core.Path.{refl, ap, ◌∙◌}
+use mathlib.Core.List.{◌∷◌, map}
+use lib.ListN.{length}
+use Rattle.laws.specs.Fill.{range}
+use Rattle.laws.proofs.Fill.{fill_from, fill_put, fill_end, range-turn, range-done}
+use Rattle.silhouette.specs.Silhouette.{segs_in}
+use Rattle.silhouette.proofs.Known.{silhouette_long}
+use Rattle.sides.specs.Features as F
+use Rattle.sides.proofs.Walked.{forward_at}
+use Rattle.sides.proofs.forward_steps.Goals as goal
+
+pub loop-i-init : goal.loop-i-init
+loop-i-init c = (omega arith, omega arith, omega arith, fill_from refl refl)
+
+pub loop-i-preserved : goal.loop-i-preserved
+loop-i-preserved c =
+    let s = c in
+    let l = c.loop-i in
+    let k = silhouette_long s.args.sil _ s.well_formed.1.1.0 in
+    let n : s.args.sil.count ≤ length s.args.sil.seg = omega arith in
+    (omega arith, omega arith, omega arith, fill_put (omega arith) (ap (map (F.forwardStep (segs_in s.args.sil))) (range-turn l.i s.args.past c.loop-i-test.true) ∙ ap (λ x. x ∷ map (F.forwardStep (segs_in s.args.sil)) (range (l.i + 1) s.args.past)) (forward_at s.args.sil l.i n (omega arith))) l.invariant.3)
+
+pub returns : goal.returns
+returns c =
+    let s = c in
+    let l = c.loop-i in
+    (omega arith, fill_end (ap (map (F.forwardStep (segs_in s.args.sil))) (range-done l.i s.args.past c.loop-i-test.false)) l.invariant.3)

@@ -1,0 +1,6 @@
+use Rattle.silhouette.proofs.axis.Goals as goal
+
+pub returns-in-Revolved : goal.returns-in-Revolved
+returns-in-Revolved c =
+    let t1 = c.in-Revolved.is in
+    simp (t1, c.plain_zero.ensures)

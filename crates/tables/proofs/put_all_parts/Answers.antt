@@ -1,0 +1,40 @@
+use native.Mathlib.Omega.{arith}
+use Rattle.drawing.proofs.Laid.{mouths-within, mouths-counted, mouths-read}
+use Rattle.mechanism.proofs.Known.{outlines-long}
+use Rattle.tables.proofs.Same.{tables_same, silhouettes, segs_within, quads}
+use Rattle.tables.proofs.put_all_parts.Goals as goal
+
+pub slice_bounds-mouths-end : goal.slice_bounds-mouths-end
+slice_bounds-mouths-end c =
+    let s = c in
+    let long = outlines-long s.args.o _ s.well_formed.1.1.1.1.0 in
+    let counted = c.segs_counted.ensures in
+    let put = c.put_segs.ensures in
+    let total = s.requires.0.total in
+    mouths-within s.args.ps c.put_segs.new.0 s.requires.0 (segs_within s.args.ps s.args.o long counted put s.requires.0) quads (omega (arith, total)) c.draw_mouths-n.ensures
+
+pub slice_bounds-put_parts-end-2 : goal.slice_bounds-put_parts-end-2
+slice_bounds-put_parts-end-2 c =
+    let s = c in
+    let long = outlines-long s.args.o _ s.well_formed.1.1.1.1.0 in
+    let counted = c.segs_counted.ensures in
+    let put = c.put_segs.ensures in
+    let total = s.requires.0.total in
+    mouths-counted s.args.ps c.put_segs.new.0 s.requires.0 (segs_within s.args.ps s.args.o long counted put s.requires.0) quads (omega (arith, total)) c.draw_mouths-n.ensures
+
+pub put_parts-requires : goal.put_parts-requires
+put_parts-requires c =
+    let s = c in
+    let long = outlines-long s.args.o _ s.well_formed.1.1.1.1.0 in
+    let counted = c.segs_counted.ensures in
+    let put = c.put_segs.ensures in
+    let total = s.requires.0.total in
+    (s.requires.0, segs_within s.args.ps s.args.o long counted put s.requires.0, mouths-read s.args.ps c.put_segs.new.0 s.requires.0 (segs_within s.args.ps s.args.o long counted put s.requires.0) quads (omega (arith, total)) c.draw_mouths-n.ensures, s.requires.1, s.requires.2, s.requires.3)
+
+pub returns : goal.returns
+returns c =
+    let s = c in
+    let long = outlines-long s.args.o _ s.well_formed.1.1.1.1.0 in
+    let counted = c.segs_counted.ensures in
+    let put = c.put_segs.ensures in
+    tables_same s.args.ps _ s.args.o (silhouettes s.args.ps s.args.o long counted put) s.args.drawn.now s.args.sampled.now s.args.parts.now c.put_parts.ensures

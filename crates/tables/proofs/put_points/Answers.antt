@@ -1,0 +1,12 @@
+use Rattle.tables.proofs.Puts.{of-line-as_is, of-arc_as_is}
+use Rattle.tables.proofs.put_points.Goals as goal
+
+pub returns-in-Line : goal.returns-in-Line
+returns-in-Line c =
+    let s = c.args in
+    of-line-as_is s.at _ c.in-Line.is c.put_line.ensures
+
+pub returns-in-Arc : goal.returns-in-Arc
+returns-in-Arc c =
+    let s = c.args in
+    of-arc_as_is s.at _ c.in-Arc.is c.put_drawn_seg.ensures

@@ -1,0 +1,16 @@
+use native.Mathlib.Omega.{arith}
+use Prim.Native.Nat.{◌*◌}
+use lib.ListN.{length-set}
+use Rattle.tables.proofs.Written.{set-two}
+use Rattle.tables.proofs.put_sides.Goals as goal
+
+pub bounds-sides-i-2 : goal.bounds-sides-i-2
+bounds-sides-i-2 c = rw length-set (omega arith)
+
+pub bounds-centers-i-2 : goal.bounds-centers-i-2
+bounds-centers-i-2 c = rw length-set (omega arith)
+
+pub returns : goal.returns
+returns c =
+    let s = c in
+    (set-two s.args.sides.now (2 * s.args.i) c.side_row.ensures c.side_row-2.ensures, set-two s.args.centers.now (2 * s.args.i) c.center_row.ensures c.center_row-2.ensures)
