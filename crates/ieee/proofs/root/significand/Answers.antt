@@ -3,23 +3,20 @@ use Rattle.ieee.proofs.Halves.{Square, square, excess, lower-fits, excess-is}
 use Rattle.ieee.proofs.Steps.{around, guess_pos}
 use Rattle.ieee.proofs.root.significand.Goals as goal
 
-parts : (c : tie.Start) → Square c.args.g
-parts c = square c.args.g c.requires.1
-
 pub overflow_mul-s : goal.overflow_mul-s
-overflow_mul-s c = omega (arith, parts c)
+overflow_mul-s c = omega (arith, square c.args.g c.requires.fact_2)
 
 pub overflow_mul-h : goal.overflow_mul-h
-overflow_mul-h c = omega (arith, parts c)
+overflow_mul-h c = omega (arith, square c.args.g c.requires.fact_2)
 
 pub overflow_add-h : goal.overflow_add-h
-overflow_add-h c = omega (arith, parts c)
+overflow_add-h c = omega (arith, square c.args.g c.requires.fact_2)
 
 pub overflow_mul-l-2 : goal.overflow_mul-l-2
-overflow_mul-l-2 c = omega (arith, parts c)
+overflow_mul-l-2 c = omega (arith, square c.args.g c.requires.fact_2)
 
 pub overflow_add-l : goal.overflow_add-l
-overflow_add-l c = omega (arith, parts c)
+overflow_add-l c = omega (arith, square c.args.g c.requires.fact_2)
 
 pub overflow_sub-d : goal.overflow_sub-d
 overflow_sub-d c = let s = c in lower-fits s.args.m s.args.g s.requires.fact_2 c.if-h-m.true
