@@ -7,7 +7,7 @@ use mathlib.Core.List.{List, [], ◌∷◌, ◌++◌}
 use lib.Dec.{ltb, eqb}
 use lib.Ieee.{Float}
 use native.Mathlib.Numerals.{add-one}
-use lib.ListN.{length, get_or, take, drop, replicate, length-append, drop_of_length_le}
+use lib.ListN.{length, get_or, take, drop, replicate, length-append, drop_of_length-le}
 use lib.Seq.{length-sets, sets-eq, take-append_seam, drop-cons, length-take-le, get_or-take}
 use borrow.Author.Tests.{lt-ltb, le-ltb, ltb-true, ltb-false, eq-eqb, ne_eqb, eqb-true, eqb-false}
 use Rattle.laws.specs.Loops.{Writing}
@@ -127,7 +127,7 @@ module _ (c n : ℕ) (l : List Column) (h : n ≤ length l) where
 
   pub last_done : (found : Point) (i : ℕ) → n ≤ i → last_column c found (drop i (take n l)) ≡ found
   unfolding last_column
-  last_done found i g = ap (last_column c found) (drop_of_length_le (take n l) {i = i} (rw (length-take-le n l h) g))
+  last_done found i g = ap (last_column c found) (drop_of_length-le (take n l) {i = i} (rw (length-take-le n l h) g))
 
 -- the array and the number of columns that a walk leaves
 pub columns_done : {all out rest : List Column} {n : ℕ} → rest ≡ [] → Writing (replicate 15 no_column) 0 all out n rest → record { count = n; column = out } ≡ columns_in all

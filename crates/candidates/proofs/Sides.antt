@@ -41,10 +41,10 @@ use Rattle.proximities.specs.Proximities.{read_center}
 use Rattle.candidates.specs.Candidates.{faces_in, discs_in, faces_at, discs_at, center_in, candidates_in, features_candidates, center_candidates, candidates_by, pair_candidates, placed_candidates, FewPlaced, candidate_room}
 
 pub faces_long : (s : SideFeatures) (vs : List Val) → Is S.the_row s vs → length s.face ≡ 12
-faces_long s vs p = array_length F.the_field 12 s.face _ p.1.1.1.1.0
+faces_long s vs p = array_length F.the_row 12 s.face _ p.1.1.1.1.0
 
 pub discs_long : (s : SideFeatures) (vs : List Val) → Is S.the_row s vs → length s.disc ≡ 28
-discs_long s vs p = array_length D.the_field 28 s.disc _ p.1.1.1.1.1.1.0
+discs_long s vs p = array_length D.the_row 28 s.disc _ p.1.1.1.1.1.1.0
 
 -- what stands past the end of an array: it is never read
 abbrev no_point : Point

@@ -16,10 +16,10 @@ use Rattle.bodies.specs.contracts.pose.Placement as L
 use Rattle.bodies.proofs.Known.{array_length}
 
 pub parts-long : (s : Parts) (vs : List Val) → Is P.the_row s vs → length s.part ≡ 32
-parts-long s vs p = array_length E.the_field 32 s.part _ p.1.1.1.0
+parts-long s vs p = array_length E.the_row 32 s.part _ p.1.1.1.0
 
 pub surface_long : (s : Surface) (vs : List Val) → Is U.the_row s vs → length s.range ≡ 4
-surface_long s vs p = array_length R.the_field 4 s.range _ p.1.1.1.0
+surface_long s vs p = array_length R.the_row 4 s.range _ p.1.1.1.0
 
 pub pose-long : (s : Pose) (vs : List Val) → Is Q.the_row s vs → length s.placement ≡ 16
-pose-long s vs p = array_length L.the_field 16 s.placement _ p.1.1.1.0
+pose-long s vs p = array_length L.the_row 16 s.placement _ p.1.1.1.0

@@ -21,7 +21,7 @@ use Rattle.sides.specs.contracts.SideFeatures as S
 use Rattle.faces.specs.Faces.{face_of}
 
 pub side-long : (s : SideFeatures) (vs : List Val) → Is S.the_row s vs → length s.face ≡ 12
-side-long s vs p = array_length F.the_field 12 s.face _ p.1.1.1.1.0
+side-long s vs p = array_length F.the_row 12 s.face _ p.1.1.1.1.0
 
 -- a count past an array's length takes all of it
 pub all-taken : {A : Type 0} (l : List A) (n : ℕ) {k : ℕ} → length l ≡ n → n ≤ k → take n l ≡ take k l

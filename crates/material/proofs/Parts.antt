@@ -4,7 +4,7 @@ use mathlib.Core.List.{List, [], map}
 use Prim.Native.Nat.{ℕ, ◌+◌, ◌-◌, ◌%◌, ◌≤◌, ◌<◌}
 use native.Mathlib.Nat.{mod-eq_of_lt, mod_self}
 use native.Mathlib.Omega.{arith}
-use lib.ListN.{length, get_or, take, drop, length-map, length-drop, drop_of_length_le, get_or-map, get_or-eq_default}
+use lib.ListN.{length, get_or, take, drop, length-map, length-drop, drop_of_length-le, get_or-map, get_or-eq_default}
 use lib.Seq.{take_all, take-nil}
 use lib.Ieee.{Float}
 use Rattle.laws.specs.Lists.{list_in, foldl}
@@ -27,7 +27,7 @@ module _ {A : Type 0} (l : List A) (n a e : ℕ) where
   pub none-there : length l ≤ a → take (n - n) (drop n l) ≡ take (e - a) (drop a l)
   none-there h =
       let p : n - n ≡ 0 = omega arith in
-      ap (λ (k : ℕ). take k (drop n l)) p ∙ sym (ap (take (e - a)) (drop_of_length_le l h) ∙ take-nil (e - a))
+      ap (λ (k : ℕ). take k (drop n l)) p ∙ sym (ap (take (e - a)) (drop_of_length-le l h) ∙ take-nil (e - a))
 
   pub all_there : length l ≤ e → take (length l - a) (drop a l) ≡ take (e - a) (drop a l)
   all_there h = take_all (length l - a) (drop a l) (simp length-drop (omega arith)) ∙ sym (take_all (e - a) (drop a l) (simp length-drop (omega arith)))

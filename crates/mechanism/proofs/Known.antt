@@ -12,7 +12,7 @@ use Rattle.mechanism.specs.contracts.Outlines as A
 use Rattle.mechanism.specs.contracts.Mechanism as M
 
 pub outlines-long : (s : Outlines) (vs : List Val) → Is A.the_row s vs → length s.seg ≡ 384
-outlines-long s vs p = array_length G.the_field 384 s.seg _ p.1.1.0
+outlines-long s vs p = array_length G.the_row 384 s.seg _ p.1.1.0
 
 pub description_long : (m : Mechanism) (vs : List Val) → Is M.the_row m vs → length m.outlines.seg ≡ 384
 description_long m vs p = outlines-long m.outlines _ p.1.1.1.1.0

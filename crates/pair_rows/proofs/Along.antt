@@ -33,7 +33,7 @@ abbrev pub none_at : Column
 none_at = record { coord = 0; column = record { x = nan; y = nan } }
 
 columns_long : (k : Columns) (vs : List Val) → Is K.the_row k vs → length k.column ≡ 15
-columns_long k vs p = array_length C.the_field 15 k.column _ p.1.1.1.0
+columns_long k vs p = array_length C.the_row 15 k.column _ p.1.1.1.0
 
 pub all_there : (k : Columns) {vs : List Val} → Is K.the_row k vs → k.count ≤ 15 → k.count ≤ length k.column
 all_there k {vs} p h = let z = columns_long k vs p in omega (arith, z, h)

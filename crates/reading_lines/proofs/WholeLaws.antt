@@ -97,7 +97,7 @@ columns_part l f c = let e : f + c - f ≡ c = omega arith in ap (λ (k : ℕ). 
 
 -- ---- a reading tells of sixteen pairs
 pub reading-long : (r : Reading) (vs : List Val) → Is R.the_row r vs → length r.pair ≡ 16
-reading-long r vs p = array_length P.the_field 16 r.pair _ p.1.1.1.1.1.0
+reading-long r vs p = array_length P.the_row 16 r.pair _ p.1.1.1.1.1.0
 
 pub other_same : (r : Reading) (i : ℕ) (d : PairReading) → length r.pair ≡ 16 → i < r.pairs → r.pairs ≤ 16
     → other_lines i (reading_at r i) ≡ other_lines i (get_or r.pair i d)

@@ -48,7 +48,7 @@ stored b js gs n i g h k =
 
 -- the arrays have their declared lengths
 waiting_long : (w : Waiting) (vs : List Val) → Is Wt.the_row w vs → (length w.number ≡ 8) × (length w.gap ≡ 8)
-waiting_long w vs p = (array_length usize-field 8 w.number _ p.1.1.1.1.0, array_length f64-field 8 w.gap _ p.1.1.1.1.1.0)
+waiting_long w vs p = (array_length usize-field.row 8 w.number _ p.1.1.1.1.0, array_length f64-field.row 8 w.gap _ p.1.1.1.1.1.0)
 
 -- n of them wait
 module _ (w : Waiting) (vs : List Val) (p : Is Wt.the_row w vs) {n : ℕ} (e : n ≡ lesser w.count 8) where

@@ -30,7 +30,7 @@ use Rattle.sheet.specs.contracts.Entries as S
 
 -- ---- the entries of a pose as they are lent: sixteen, of which the first i are there
 pub entries-long : (e : Entries) (vs : List Val) → Is S.the_row e vs → length e.entry ≡ 16
-entries-long e vs p = array_length E.the_field 16 e.entry _ p.1.1.1.0
+entries-long e vs p = array_length E.the_row 16 e.entry _ p.1.1.1.0
 
 pub record Lents (es : List Entry) (q : List (List Float)) (i : ℕ) : Type 0 where
   pub bound : i ≤ 16

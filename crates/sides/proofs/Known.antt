@@ -16,10 +16,10 @@ use Rattle.sides.specs.contracts.Traversal as T
 use Rattle.sides.specs.contracts.Traversals as S
 
 pub runs_long : (t : Traversals) (vs : List Val) → Is S.the_row t vs → length t.traversal ≡ 4
-runs_long t vs p = array_length T.the_field 4 t.traversal _ p.1.1.1.0
+runs_long t vs p = array_length T.the_row 4 t.traversal _ p.1.1.1.0
 
 pub ranges_long : (u : Surface) (vs : List Val) → Is U.the_row u vs → length u.range ≡ 4
-ranges_long u vs p = array_length R.the_field 4 u.range _ p.1.1.1.0
+ranges_long u vs p = array_length R.the_row 4 u.range _ p.1.1.1.0
 
 pub pairs-long : (p : Pairs) (vs : List Val) → Is P.the_row p vs → length p.pair ≡ 16
-pairs-long p vs q = array_length C.the_field 16 p.pair _ q.1.1.1.0
+pairs-long p vs q = array_length C.the_row 16 p.pair _ q.1.1.1.0

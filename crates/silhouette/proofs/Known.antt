@@ -12,7 +12,7 @@ use Rattle.silhouette.specs.contracts.Outline as O
 use Rattle.silhouette.specs.contracts.SilhouetteSegs as S
 
 pub outline-long : (s : Outline) (vs : List Val) → Is O.the_row s vs → length s.seg ≡ 48
-outline-long s vs p = array_length G.the_field 48 s.seg _ p.1.1.1.0
+outline-long s vs p = array_length G.the_row 48 s.seg _ p.1.1.1.0
 
 pub silhouette_long : (s : SilhouetteSegs) (vs : List Val) → Is S.the_row s vs → length s.seg ≡ 94
-silhouette_long s vs p = array_length G.the_field 94 s.seg _ p.1.1.1.0
+silhouette_long s vs p = array_length G.the_row 94 s.seg _ p.1.1.1.0

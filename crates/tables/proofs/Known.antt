@@ -26,10 +26,10 @@ use Rattle.sides.specs.contracts.SideFeatures as S
 use Rattle.tables.specs.Tables.{pair_faces, pair_face_names, pair_discs, pair_disc_names}
 
 pub faces_long : (s : SideFeatures) (vs : List Val) → Is S.the_row s vs → length s.face ≡ 12
-faces_long s vs p = array_length F.the_field 12 s.face _ p.1.1.1.1.0
+faces_long s vs p = array_length F.the_row 12 s.face _ p.1.1.1.1.0
 
 pub discs_long : (s : SideFeatures) (vs : List Val) → Is S.the_row s vs → length s.disc ≡ 28
-discs_long s vs p = array_length D.the_field 28 s.disc _ p.1.1.1.1.1.1.0
+discs_long s vs p = array_length D.the_row 28 s.disc _ p.1.1.1.1.1.1.0
 
 -- the features that the code reads are the pair's
 pub features_are : (ps : Parts) (o : Outlines) (p : ContactPair) {f : PairFeatures} → pair_drawn ps p ≡ true → f ≡ pair_features_at ps o p → f ≡ pair_features ps o p

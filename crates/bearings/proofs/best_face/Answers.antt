@@ -20,6 +20,9 @@ overflow_add-i c = let p = c.faces-m.ensures.0 in omega arith
 pub meets_any-requires : goal.meets_any-requires
 meets_any-requires c = c.requires
 
+pub loop-i-smaller-then-best-m : goal.loop-i-smaller-then-best-m
+loop-i-smaller-then-best-m c = omega arith
+
 pub loop-i-preserved-then-best-m : goal.loop-i-preserved-then-best-m
 loop-i-preserved-then-best-m c =
     let s = c in
@@ -29,6 +32,9 @@ loop-i-preserved-then-best-m c =
     walked_takes c.loop-i.invariant (omega arith)
     c.loop-i-test.true meets c.score-x.ensures c.total_order.ensures c.if-best-m.true
 
+pub loop-i-smaller-else-best-m : goal.loop-i-smaller-else-best-m
+loop-i-smaller-else-best-m c = omega arith
+
 pub loop-i-preserved-else-best-m : goal.loop-i-preserved-else-best-m
 loop-i-preserved-else-best-m c =
     let s = c in
@@ -37,6 +43,9 @@ loop-i-preserved-else-best-m c =
     let meets = sym c.Meets-any.ensures ∙ c.if-meets_any.true in
     walked_stays c.loop-i.invariant (omega arith)
     c.loop-i-test.true meets c.score-x.ensures c.total_order.ensures c.if-best-m.false
+
+pub loop-i-smaller : goal.loop-i-smaller
+loop-i-smaller c = omega arith
 
 pub loop-i-preserved : goal.loop-i-preserved
 loop-i-preserved c =

@@ -28,6 +28,9 @@ returns-then-same_piece c =
     sym (named-yes s.args.piece s.args.s.face _ loop.i (omega arith) no_face c.loop-i-test.true
     (sym c.same_piece.ensures ∙ c.if-same_piece.true)) ∙ loop.invariant
 
+pub loop-i-smaller : goal.loop-i-smaller
+loop-i-smaller c = omega arith
+
 pub loop-i-preserved : goal.loop-i-preserved
 loop-i-preserved c =
     let s = c in

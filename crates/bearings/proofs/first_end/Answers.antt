@@ -28,6 +28,9 @@ returns-then-same_piece c =
     sym (first-yes s.args.piece s.args.s.disc _ loop.i (omega arith) no_disc c.loop-i-test.true same
     c.on_circle.ensures) ∙ loop.invariant
 
+pub loop-i-smaller : goal.loop-i-smaller
+loop-i-smaller c = omega arith
+
 pub loop-i-preserved : goal.loop-i-preserved
 loop-i-preserved c =
     let s = c in

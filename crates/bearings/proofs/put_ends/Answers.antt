@@ -44,6 +44,9 @@ overflow_add-at-then-same_piece c =
     let f = c.loop-i.invariant.few in
     omega arith
 
+pub loop-i-smaller-then-same_piece : goal.loop-i-smaller-then-same_piece
+loop-i-smaller-then-same_piece c = omega arith
+
 pub loop-i-preserved-then-same_piece : goal.loop-i-preserved-then-same_piece
 loop-i-preserved-then-same_piece c =
     let s = c in
@@ -52,6 +55,9 @@ loop-i-preserved-then-same_piece c =
     let same = sym c.same_piece.ensures ∙ c.if-same_piece.true in
     put_two c.loop-i.invariant no_disc (omega arith)
     c.loop-i-test.true same c.on_circle-a.ensures c.on_circle-b.ensures
+
+pub loop-i-smaller : goal.loop-i-smaller
+loop-i-smaller c = omega arith
 
 pub loop-i-preserved : goal.loop-i-preserved
 loop-i-preserved c =

@@ -18,6 +18,9 @@ bounds-b-k c = let p = c.requires.0 in omega arith
 pub overflow_add-k : goal.overflow_add-k
 overflow_add-k c = let p = c.requires.0 in omega arith
 
+pub loop-k-smaller : goal.loop-k-smaller
+loop-k-smaller c = omega arith
+
 pub loop-k-preserved : goal.loop-k-preserved
 loop-k-preserved c =
     let s = c in

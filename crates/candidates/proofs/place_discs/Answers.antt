@@ -28,6 +28,9 @@ bounds-disc-i c = let p = c.requires.1 in let w = c.loop-i.invariant.1.long in o
 pub overflow_add-i : goal.overflow_add-i
 overflow_add-i c = let p = c.requires.1 in omega arith
 
+pub loop-i-smaller : goal.loop-i-smaller
+loop-i-smaller c = omega arith
+
 pub loop-i-preserved : goal.loop-i-preserved
 loop-i-preserved c =
     let s = c in

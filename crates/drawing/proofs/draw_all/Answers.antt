@@ -59,6 +59,9 @@ bounds-starts-k c =
     let p = draws_place _ _ _ _ _ l.invariant.1 c.loop-i-test.true (eq-eqb _ _ c.if-c-j.true) s.requires.3 in
     omega arith
 
+pub loop-i-smaller-then-c-j : goal.loop-i-smaller-then-c-j
+loop-i-smaller-then-c-j c = omega arith
+
 pub loop-i-preserved-then-c-j : goal.loop-i-preserved-then-c-j
 loop-i-preserved-then-c-j c =
     let l = c.loop-i in
@@ -68,6 +71,9 @@ loop-i-preserved-then-c-j c =
       ap (λ (n : ℕ). n + segs_of ps l.i) l.invariant.0 ∙ sym (sum_more (segs_of ps) l.i),
       draws_more _ _ _ _ _ l.invariant.1 h (eq-eqb _ _ c.if-c-j.true) (polygon_drawn s.args.segs.now ps s.args.q s.requires.0 h l.invariant.0 l.at l.points _ c.placement_at.ensures c.draw_polygon-at.ensures),
     )
+
+pub loop-i-smaller : goal.loop-i-smaller
+loop-i-smaller c = omega arith
 
 pub loop-i-preserved : goal.loop-i-preserved
 loop-i-preserved c =

@@ -22,17 +22,29 @@ bounds-u-k c = let h = c.ranges-2.ensures.0 in omega arith
 pub overflow_add-k : goal.overflow_add-k
 overflow_add-k c = let h = c.ranges-2.ensures.0 in omega arith
 
+pub offset_bounds-ps-i : goal.offset_bounds-ps-i
+offset_bounds-ps-i c = omega arith
+
+pub bounds-ps-i : goal.bounds-ps-i
+bounds-ps-i c = omega arith
+
 pub returns-then-is_sampled : goal.returns-then-is_sampled
 returns-then-is_sampled c =
     let l = c.loop-k in
     let s = c in
     sym (any-yes (λ r. is_sampled (part_at s.args.ps r.part)) (range_at s.args.u) _ l.k (omega arith) (sym c.is_sampled.ensures ∙ c.if-is_sampled.true)) ∙ l.invariant
 
+pub loop-k-smaller-else-is_sampled : goal.loop-k-smaller-else-is_sampled
+loop-k-smaller-else-is_sampled c = omega arith
+
 pub loop-k-preserved-else-is_sampled : goal.loop-k-preserved-else-is_sampled
 loop-k-preserved-else-is_sampled c =
     let l = c.loop-k in
     let s = c in
     sym (any-no (λ r. is_sampled (part_at s.args.ps r.part)) (range_at s.args.u) _ l.k (omega arith) (sym c.is_sampled.ensures ∙ c.if-is_sampled.false)) ∙ l.invariant
+
+pub loop-k-smaller : goal.loop-k-smaller
+loop-k-smaller c = omega arith
 
 pub loop-k-preserved : goal.loop-k-preserved
 loop-k-preserved c =

@@ -29,6 +29,9 @@ returns-then-r-i c =
     let s = c in
     sym (any-yes (λ r. eqb r.part s.args.i) (range_at s.args.u) _ l.k (omega arith) (eq-eqb _ _ c.if-r-i.true)) ∙ l.invariant
 
+pub loop-k-smaller : goal.loop-k-smaller
+loop-k-smaller c = omega arith
+
 pub loop-k-preserved : goal.loop-k-preserved
 loop-k-preserved c =
     let l = c.loop-k in

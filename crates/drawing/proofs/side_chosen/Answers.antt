@@ -8,8 +8,20 @@ use Rattle.drawing.proofs.side_chosen.Goals as goal
 pub loop-i-init : goal.loop-i-init
 loop-i-init c = (omega arith, fill_from refl refl)
 
+pub offset_bounds-ps-i : goal.offset_bounds-ps-i
+offset_bounds-ps-i c = omega arith
+
+pub bounds-ps-i : goal.bounds-ps-i
+bounds-ps-i c = omega arith
+
 pub bounds-what-i : goal.bounds-what-i
 bounds-what-i c = let k = c.loop-i.invariant.1.long in omega arith
+
+pub overflow_add-i : goal.overflow_add-i
+overflow_add-i c = omega arith
+
+pub loop-i-smaller : goal.loop-i-smaller
+loop-i-smaller c = omega arith
 
 pub loop-i-preserved : goal.loop-i-preserved
 loop-i-preserved c =

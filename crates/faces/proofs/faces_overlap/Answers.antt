@@ -29,6 +29,9 @@ overflow_add-i c = let k = c.faces-m.ensures.0 in omega arith
 pub past-deepest-requires : goal.past-deepest-requires
 past-deepest-requires c = c.loop-i.invariant.1
 
+pub loop-i-smaller-then-is_long : goal.loop-i-smaller-then-is_long
+loop-i-smaller-then-is_long c = omega arith
+
 pub loop-i-preserved-then-is_long : goal.loop-i-preserved-then-is_long
 loop-i-preserved-then-is_long c =
     let l = c.loop-i in
@@ -40,6 +43,9 @@ loop-i-preserved-then-is_long c =
     c.world-a0.ensures c.world-a1.ensures c.sub-e.ensures c.dot.ensures c.is_long.ensures
     c.if-is_long.true c.vector-v.ensures c.rotate-n.ensures c.past-deepest.ensures.0 in
     (omega arith, c.past-deepest.ensures.1, held_on (step_of s.pa s.pb (faces_in s.b)) s.a.face m.result l.i (omega arith) c.loop-i-test.true g ∙ l.invariant.2)
+
+pub loop-i-smaller : goal.loop-i-smaller
+loop-i-smaller c = omega arith
 
 pub loop-i-preserved : goal.loop-i-preserved
 loop-i-preserved c =

@@ -21,6 +21,9 @@ bounds-gaps-k c = let w = c.loop-k.invariant in omega arith
 pub overflow_add-k : goal.overflow_add-k
 overflow_add-k c = let w = c.loop-k.invariant in omega arith
 
+pub loop-k-smaller : goal.loop-k-smaller
+loop-k-smaller c = omega arith
+
 pub loop-k-preserved : goal.loop-k-preserved
 loop-k-preserved c = compared-more c.loop-k.invariant c.loop-k-test.true c.lesser_gap-b.ensures
 

@@ -33,6 +33,9 @@ bounds-entry-k c = let w = c.loop-k.invariant in let e = copied_long w in omega 
 pub overflow_add-k : goal.overflow_add-k
 overflow_add-k c = let w = c.loop-k.invariant in omega arith
 
+pub loop-k-smaller : goal.loop-k-smaller
+loop-k-smaller c = omega arith
+
 pub loop-k-preserved : goal.loop-k-preserved
 loop-k-preserved c = copied_more c.loop-k.invariant c.loop-k-test.true
 

@@ -23,11 +23,23 @@ bounds-values-i c = let h = c.requires in omega arith
 pub overflow_add-i : goal.overflow_add-i
 overflow_add-i c = let h = c.requires in omega arith
 
+pub bounds-x-0 : goal.bounds-x-0
+bounds-x-0 c = omega arith
+
+pub bounds-v-0 : goal.bounds-v-0
+bounds-v-0 c = omega arith
+
+pub loop-i-smaller-then-x-pair : goal.loop-i-smaller-then-x-pair
+loop-i-smaller-then-x-pair c = omega arith
+
 pub loop-i-preserved-then-x-pair : goal.loop-i-preserved-then-x-pair
 loop-i-preserved-then-x-pair c =
     let a = c in
     let s = a.args in
     (omega arith, c.lesser_gap-best.ensures ∙ best_takes (pair_in s.places.now) (gap_in s.values.now) a.loop-i.invariant.1 c.if-x-pair.true)
+
+pub loop-i-smaller : goal.loop-i-smaller
+loop-i-smaller c = omega arith
 
 pub loop-i-preserved : goal.loop-i-preserved
 loop-i-preserved c =

@@ -1,5 +1,5 @@
 use Prim.Native.Nat.{◌+◌, ◌-◌}
-use mathlib.Core.Path.{◌≡◌, sym, ap, ap₂, ◌∙◌}
+use mathlib.Core.Path.{◌≡◌, refl, sym, ap, ap₂, ◌∙◌}
 use mathlib.Core.List.{List}
 use lib.ListN.{get_or}
 use lib.Ieee.{Float}
@@ -7,6 +7,12 @@ use Rattle.laws.proofs.Lists.{any-yes, any-no, any-done}
 use Rattle.material.specs.Material.{inside_of, points_of, poly_at, between}
 use native.Mathlib.Omega.{arith}
 use Rattle.material.proofs.any_inside.Goals as goal
+
+pub loop-i-init : goal.loop-i-init
+loop-i-init c = refl
+
+pub overflow_add-i : goal.overflow_add-i
+overflow_add-i c = omega arith
 
 pub returns-then-inside : goal.returns-then-inside
 returns-then-inside c =
@@ -17,6 +23,9 @@ returns-then-inside c =
     let e : c.inside.result ≡ inside_of s.p (poly_at s.points.now s.starts.now l.i) =
     c.inside.ensures ∙ ap (λ (x : List (List Float)). inside_of s.p (points_of x)) w in
     sym (any-yes (inside_of s.p) (poly_at s.points.now s.starts.now) s.to l.i (omega arith) (sym e ∙ c.if-inside.true)) ∙ l.invariant
+
+pub loop-i-smaller : goal.loop-i-smaller
+loop-i-smaller c = omega arith
 
 pub loop-i-preserved : goal.loop-i-preserved
 loop-i-preserved c =

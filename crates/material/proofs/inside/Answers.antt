@@ -1,7 +1,7 @@
 use Prim.Native.Nat.{ℕ, ◌+◌, ◌-◌, ◌<◌, ◌≤◌}
 use mathlib.Core.Path.{◌≡◌, refl, sym, ap, subst, ◌∙◌}
 use mathlib.Core.Bool.{Bool, true, false, not, cond, beq}
-use mathlib.Core.List.{List}
+use mathlib.Core.List.{List, []}
 use native.Mathlib.Omega.{arith}
 use lib.ListN.{length, get_or, length-map, get_or-map}
 use lib.Ieee.{Float, lt}
@@ -43,14 +43,44 @@ returns-then-n-eq0 c =
     let none : length l ≡ 0 = length-map s.poly.now point_of ∙ c.if-n-eq0.true in
     sym (ap (λ (n : ℕ). foldl (turned_by s.p) false (list_in (edge_at (λ i. get_or l i nowhere) n) n 0)) none)
 
+pub overflow_sub-last : goal.overflow_sub-last
+overflow_sub-last c = omega arith
+
+pub bounds-poly-0 : goal.bounds-poly-0
+bounds-poly-0 c = omega arith
+
+pub bounds-u-0 : goal.bounds-u-0
+bounds-u-0 c = omega arith
+
+pub bounds-u-1 : goal.bounds-u-1
+bounds-u-1 c = omega arith
+
 pub loop-i-init : goal.loop-i-init
 loop-i-init c =
     let s = c.args in
     let l = points_of s.poly.now in
     (omega arith, subst (λ (q : Point). Passed s.p l 0 q (lt s.p.y q.y) false) (corner-at s.poly.now 0) (starts s.p l))
 
+pub overflow_add-i : goal.overflow_add-i
+overflow_add-i c = omega arith
+
+pub offset_bounds-poly-i : goal.offset_bounds-poly-i
+offset_bounds-poly-i c = omega arith
+
+pub bounds-poly-i : goal.bounds-poly-i
+bounds-poly-i c = omega arith
+
+pub bounds-v-0 : goal.bounds-v-0
+bounds-v-0 c = omega arith
+
+pub bounds-v-1 : goal.bounds-v-1
+bounds-v-1 c = omega arith
+
 pub crosses-odd-requires : goal.crosses-odd-requires
 crosses-odd-requires c = (on-side c.loop-i.invariant.1, sym c.if-p-corner.true)
+
+pub loop-i-smaller-then-p-corner : goal.loop-i-smaller-then-p-corner
+loop-i-smaller-then-p-corner c = omega arith
 
 pub loop-i-preserved-then-p-corner : goal.loop-i-preserved-then-p-corner
 loop-i-preserved-then-p-corner c =
@@ -63,6 +93,9 @@ loop-i-preserved-then-p-corner c =
 
 pub crosses-odd-requires-else-p-corner : goal.crosses-odd-requires-else-p-corner
 crosses-odd-requires-else-p-corner c = (on-side c.loop-i.invariant.1, sym c.if-p-corner.false)
+
+pub loop-i-smaller : goal.loop-i-smaller
+loop-i-smaller c = omega arith
 
 pub loop-i-preserved : goal.loop-i-preserved
 loop-i-preserved c =

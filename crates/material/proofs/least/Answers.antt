@@ -13,8 +13,14 @@ use Rattle.material.proofs.least.Goals as goal
 pub loop-i-init : goal.loop-i-init
 loop-i-init c = (c.requires, inl refl)
 
+pub overflow_add-i : goal.overflow_add-i
+overflow_add-i c = omega arith
+
 pub least_of-best-requires : goal.least_of-best-requires
 least_of-best-requires c = c.loop-i.invariant.0
+
+pub loop-i-smaller : goal.loop-i-smaller
+loop-i-smaller c = omega arith
 
 pub loop-i-preserved : goal.loop-i-preserved
 loop-i-preserved c =

@@ -11,6 +11,24 @@ use Rattle.material.proofs.y_range.Goals as goal
 pub loop-i-init : goal.loop-i-init
 loop-i-init c = (omega arith, range-starts _ _ _ c.infinity-lo.ensures c.infinity-hi.ensures)
 
+pub offset_bounds-points-i : goal.offset_bounds-points-i
+offset_bounds-points-i c = omega arith
+
+pub bounds-points-i : goal.bounds-points-i
+bounds-points-i c = omega arith
+
+pub overflow_add-i : goal.overflow_add-i
+overflow_add-i c = omega arith
+
+pub bounds-v-1 : goal.bounds-v-1
+bounds-v-1 c = omega arith
+
+pub bounds-v-1-in-loop-i : goal.bounds-v-1-in-loop-i
+bounds-v-1-in-loop-i c = omega arith
+
+pub loop-i-smaller : goal.loop-i-smaller
+loop-i-smaller c = omega arith
+
 pub loop-i-preserved : goal.loop-i-preserved
 loop-i-preserved c =
     let l = c.loop-i in

@@ -8,7 +8,7 @@ use Rattle.material.proofs.y_range.Given as goal
 
 abbrev pub invariant-loop-i : goal.invariant-loop-i
 invariant-loop-i l =
-    (l.i ≤ length l.points) × (foldl range_with (record { l.lo = l.lo; l.hi = l.hi }) (list_in (row_point l.points) (length l.points - l.i) l.i) ≡ range_of l.points)
+    (l.i ≤ length l.points) × (foldl range_with (record { lo = l.lo; hi = l.hi }) (list_in (row_point l.points) (length l.points - l.i) l.i) ≡ range_of l.points)
 
 abbrev pub decreases-loop-i : goal.decreases-loop-i
 decreases-loop-i l = length l.points - l.i

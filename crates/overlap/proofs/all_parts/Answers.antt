@@ -16,11 +16,23 @@ loop-i-init c =
     let s = c.args in
     ap (λ k. any (λ j. not (ltb j s.n)) (list_in (λ j. get_or s.l.now j 0) k 0)) (sub-zero (length s.l.now)) ∙ ap (any (λ j. not (ltb j s.n))) (list_of s.l.now)
 
+pub offset_bounds-l-i : goal.offset_bounds-l-i
+offset_bounds-l-i c = omega arith
+
+pub bounds-l-i : goal.bounds-l-i
+bounds-l-i c = omega arith
+
+pub overflow_add-i : goal.overflow_add-i
+overflow_add-i c = omega arith
+
 pub returns-then-n-x : goal.returns-then-n-x
 returns-then-n-x c =
     let l = c.loop-i in
     let s = c.args in
     ap not (sym (any-yes (λ j. not (ltb j s.n)) (λ j. get_or s.l.now j 0) (length s.l.now) l.i (omega arith) (ap not (le-ltb _ _ c.if-n-x.true))) ∙ l.invariant)
+
+pub loop-i-smaller : goal.loop-i-smaller
+loop-i-smaller c = omega arith
 
 pub loop-i-preserved : goal.loop-i-preserved
 loop-i-preserved c =

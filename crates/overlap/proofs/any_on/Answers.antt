@@ -33,6 +33,9 @@ returns-then-is-p c =
     let s = c.args in
     sym (any-yes (λ i. owner_at s.w i && eqb (part_at s.ps i).body s.body) s.ps.count l.j (omega arith) c.if-is-p.true) ∙ l.invariant
 
+pub loop-j-smaller : goal.loop-j-smaller
+loop-j-smaller c = omega arith
+
 pub loop-j-preserved : goal.loop-j-preserved
 loop-j-preserved c =
     let l = c.loop-j in

@@ -13,6 +13,24 @@ use Rattle.overlap.proofs.deepest_in.Goals as goal
 pub loop-i-init : goal.loop-i-init
 loop-i-init c = (omega arith, rw sub-zero)
 
+pub offset_bounds-samples-i : goal.offset_bounds-samples-i
+offset_bounds-samples-i c = omega arith
+
+pub bounds-samples-i : goal.bounds-samples-i
+bounds-samples-i c = omega arith
+
+pub overflow_add-i : goal.overflow_add-i
+overflow_add-i c = omega arith
+
+pub bounds-v-0 : goal.bounds-v-0
+bounds-v-0 c = omega arith
+
+pub bounds-v-1 : goal.bounds-v-1
+bounds-v-1 c = omega arith
+
+pub loop-i-smaller : goal.loop-i-smaller
+loop-i-smaller c = omega arith
+
 pub loop-i-preserved : goal.loop-i-preserved
 loop-i-preserved c =
     let l = c.loop-i in

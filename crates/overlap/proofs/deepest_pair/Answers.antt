@@ -24,6 +24,9 @@ bounds-pairs-i c = let h = c.requires in omega arith
 pub overflow_add-i : goal.overflow_add-i
 overflow_add-i c = let h = c.requires in omega arith
 
+pub loop-i-smaller : goal.loop-i-smaller
+loop-i-smaller c = omega arith
+
 pub loop-i-preserved : goal.loop-i-preserved
 loop-i-preserved c =
     let l = c.loop-i in

@@ -15,11 +15,23 @@ loop-j-init c =
     let s = c.args in
     ap (λ k. any (λ x. eqb x s.i) (list_in (λ n. get_or s.l.now n 0) k 0)) (sub-zero (length s.l.now)) ∙ ap (any (λ x. eqb x s.i)) (list_of s.l.now)
 
+pub offset_bounds-l-j : goal.offset_bounds-l-j
+offset_bounds-l-j c = omega arith
+
+pub bounds-l-j : goal.bounds-l-j
+bounds-l-j c = omega arith
+
+pub overflow_add-j : goal.overflow_add-j
+overflow_add-j c = omega arith
+
 pub returns-then-x-i : goal.returns-then-x-i
 returns-then-x-i c =
     let l = c.loop-j in
     let s = c.args in
     sym (any-yes (λ x. eqb x s.i) (λ n. get_or s.l.now n 0) (length s.l.now) l.j (omega arith) (eq-eqb _ _ c.if-x-i.true)) ∙ l.invariant
+
+pub loop-j-smaller : goal.loop-j-smaller
+loop-j-smaller c = omega arith
 
 pub loop-j-preserved : goal.loop-j-preserved
 loop-j-preserved c =

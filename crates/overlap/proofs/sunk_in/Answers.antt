@@ -45,6 +45,9 @@ sunk_part-d-requires c =
     let asks = part-asks a.args.ps a.args.segs.now a.requires.0 a.requires.1 l.i c.loop-i-test.true l.invariant.0 in
     (asks.0, asks.1, c.y_range-range.ensures)
 
+pub loop-i-smaller-then-w-j : goal.loop-i-smaller-then-w-j
+loop-i-smaller-then-w-j c = omega arith
+
 pub loop-i-preserved-then-w-j : goal.loop-i-preserved-then-w-j
 loop-i-preserved-then-w-j c =
     let l = c.loop-i in
@@ -58,6 +61,9 @@ loop-i-preserved-then-w-j c =
       sunk_plain m f (owner_at s.w) s.ps.count l.d l.i l.invariant.1 taken,
       sunk_more m f (owner_at s.w) s.ps.count l.d l.i l.invariant.1 taken h c.if-w-j.true ∙ l.invariant.2,
     )
+
+pub loop-i-smaller : goal.loop-i-smaller
+loop-i-smaller c = omega arith
 
 pub loop-i-preserved : goal.loop-i-preserved
 loop-i-preserved c =

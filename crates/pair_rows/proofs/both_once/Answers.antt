@@ -8,11 +8,17 @@ use Rattle.pair_rows.proofs.both_once.Goals as goal
 pub loop-left-init : goal.loop-left-init
 loop-left-init c = (omega arith, refl)
 
+pub overflow_sub-left : goal.overflow_sub-left
+overflow_sub-left c = omega arith
+
 pub returns-then-not-driven_once : goal.returns-then-not-driven_once
 returns-then-not-driven_once c =
     let s = c.args in
     let l = c.loop-left in
     due-no (driven_once s.b) s.y l.body l.left l.invariant.1 (omega arith) l.invariant.0 (sym c.driven_once.ensures ∙ not_yes _ c.if-not-driven_once.true)
+
+pub loop-left-smaller : goal.loop-left-smaller
+loop-left-smaller c = omega arith
 
 pub loop-left-preserved : goal.loop-left-preserved
 loop-left-preserved c =

@@ -9,6 +9,9 @@ use Rattle.pair_rows.proofs.chain_of.Goals as goal
 pub loop-steps-init : goal.loop-steps-init
 loop-steps-init c = (omega arith, starts refl)
 
+pub overflow_sub-steps : goal.overflow_sub-steps
+overflow_sub-steps c = omega arith
+
 pub returns-then-at : goal.returns-then-at
 returns-then-at c = chain_done (coords-none _ _ _ c.if-at.true) c.loop-steps.invariant.1
 
@@ -33,6 +36,9 @@ bounds-b-at c =
     let u = h.1 in
     omega arith
 
+pub loop-steps-smaller-in-Ground : goal.loop-steps-smaller-in-Ground
+loop-steps-smaller-in-Ground c = omega arith
+
 pub loop-steps-preserved-in-Ground : goal.loop-steps-preserved-in-Ground
 loop-steps-preserved-in-Ground c = (omega arith, goes_on (coords-turn _ _ _ (omega arith) c.if-at.false c.in-Ground.is) c.loop-steps.invariant.1)
 
@@ -44,6 +50,9 @@ bounds-out-n c = let w = c.loop-steps.invariant.1.long in omega arith
 
 pub overflow_add-n : goal.overflow_add-n
 overflow_add-n c = let w = c.loop-steps.invariant.1.long in omega arith
+
+pub loop-steps-smaller-in-Revolute : goal.loop-steps-smaller-in-Revolute
+loop-steps-smaller-in-Revolute c = omega arith
 
 pub loop-steps-preserved-in-Revolute : goal.loop-steps-preserved-in-Revolute
 loop-steps-preserved-in-Revolute c =
@@ -59,6 +68,9 @@ bounds-out-n-in-Prismatic c = let w = c.loop-steps.invariant.1.long in omega ari
 
 pub overflow_add-n-in-Prismatic : goal.overflow_add-n-in-Prismatic
 overflow_add-n-in-Prismatic c = let w = c.loop-steps.invariant.1.long in omega arith
+
+pub loop-steps-smaller : goal.loop-steps-smaller
+loop-steps-smaller c = omega arith
 
 pub loop-steps-preserved : goal.loop-steps-preserved
 loop-steps-preserved c =

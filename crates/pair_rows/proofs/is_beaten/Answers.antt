@@ -42,8 +42,17 @@ bounds-named-j c = let h = c.requires in omega arith
 pub overflow_add-j : goal.overflow_add-j
 overflow_add-j c = let h = c.requires in omega arith
 
+pub bounds-x-0 : goal.bounds-x-0
+bounds-x-0 c = omega arith
+
+pub bounds-y-0 : goal.bounds-y-0
+bounds-y-0 c = omega arith
+
 pub returns-then-are_alike-outdoes : goal.returns-then-are_alike-outdoes
 returns-then-are_alike-outdoes c = sym (any-yes _ _ _ c.loop-j-test.true (ap₂ (λ a b. a && b) (sym c.are_alike.ensures) (sym c.outdoes.ensures) ∙ c.if-are_alike-outdoes.true)) ∙ c.loop-j.invariant
+
+pub loop-j-smaller : goal.loop-j-smaller
+loop-j-smaller c = omega arith
 
 pub loop-j-preserved : goal.loop-j-preserved
 loop-j-preserved c = sym (any-no _ _ _ c.loop-j-test.true (ap₂ (λ a b. a && b) (sym c.are_alike.ensures) (sym c.outdoes.ensures) ∙ c.if-are_alike-outdoes.false)) ∙ c.loop-j.invariant

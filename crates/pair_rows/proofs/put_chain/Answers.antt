@@ -87,6 +87,9 @@ bounds-slip-to-then-c-n c =
     let r = summed_room w none_at c.loop-i-test.true (all_there s.args.k s.well_formed.1.1.1.1.1.0 s.requires.2) s.requires.1 c.if-c-n.true in
     omega arith
 
+pub loop-i-smaller-then-c-n : goal.loop-i-smaller-then-c-n
+loop-i-smaller-then-c-n c = omega arith
+
 pub loop-i-preserved-then-c-n : goal.loop-i-preserved-then-c-n
 loop-i-preserved-then-c-n c =
     let t = c in
@@ -97,6 +100,9 @@ loop-i-preserved-then-c-n c =
       summed_put w.0 none_at h l s.requires.0 t.if-c-n.true c.choose.ensures,
       summed_put w.1 none_at h l s.requires.1 t.if-c-n.true c.choose-then-c-n.ensures,
     )
+
+pub loop-i-smaller : goal.loop-i-smaller
+loop-i-smaller c = omega arith
 
 pub loop-i-preserved : goal.loop-i-preserved
 loop-i-preserved c =

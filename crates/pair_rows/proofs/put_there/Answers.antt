@@ -27,6 +27,24 @@ offset_bounds-near-k c = let h = c.requires.0 in let k = c.requires.1 in omega a
 pub bounds-near-k : goal.bounds-near-k
 bounds-near-k c = let h = c.requires.0 in let k = c.requires.1 in omega arith
 
+pub bounds-x-0 : goal.bounds-x-0
+bounds-x-0 c = omega arith
+
+pub bounds-x-1 : goal.bounds-x-1
+bounds-x-1 c = omega arith
+
+pub bounds-x-2 : goal.bounds-x-2
+bounds-x-2 c = omega arith
+
+pub bounds-x-3 : goal.bounds-x-3
+bounds-x-3 c = omega arith
+
+pub bounds-x-4 : goal.bounds-x-4
+bounds-x-4 c = omega arith
+
+pub bounds-x-5 : goal.bounds-x-5
+bounds-x-5 c = omega arith
+
 pub offset_bounds-places-to : goal.offset_bounds-places-to
 offset_bounds-places-to c =
     let r = listing_room c.loop-i.invariant c.requires.2 c.loop-i-test.true (sym c.is_shown.ensures ∙ c.if-is_shown.true) in
@@ -68,10 +86,16 @@ overflow_add-to c =
     let x = c.loop-i.invariant.placed.long in
     omega arith
 
+pub loop-i-smaller-then-is_shown : goal.loop-i-smaller-then-is_shown
+loop-i-smaller-then-is_shown c = omega arith
+
 pub loop-i-preserved-then-is_shown : goal.loop-i-preserved-then-is_shown
 loop-i-preserved-then-is_shown c =
     let s = c.args in
     listing_more c.loop-i.invariant c.loop-i-test.true (sym c.is_shown.ensures ∙ c.if-is_shown.true) (along-long _ _ _ _ _ _) (along-long _ _ _ _ _ _) c.put_columns.ensures.0 c.put_columns.ensures.1
+
+pub loop-i-smaller : goal.loop-i-smaller
+loop-i-smaller c = omega arith
 
 pub loop-i-preserved : goal.loop-i-preserved
 loop-i-preserved c = listing_skip c.loop-i.invariant c.loop-i-test.true (sym c.is_shown.ensures ∙ c.if-is_shown.false)

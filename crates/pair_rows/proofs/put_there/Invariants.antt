@@ -1,5 +1,6 @@
 use Prim.Native.Nat.{◌-◌}
 use lib.ListN.{get_or}
+use mathlib.Core.List.{[]}
 use Rattle.mechanism.specs.Rows.{gap_in}
 use Rattle.showing.specs.Showing.{shows}
 use Rattle.pair_rows.specs.PairRows.{decides_in, alike_in, place_in, grad_in, slip_in}

@@ -22,6 +22,9 @@ bounds-out-at c = let h = c.requires in let l = c.loop-i.invariant.1 in omega ar
 pub overflow_add-i : goal.overflow_add-i
 overflow_add-i c = let h = c.requires in let l = c.loop-i.invariant.1 in omega arith
 
+pub loop-i-smaller : goal.loop-i-smaller
+loop-i-smaller c = omega arith
+
 pub loop-i-preserved : goal.loop-i-preserved
 loop-i-preserved c =
     let e = sets-one-more c.args.out.now c.loop-i.out c.args.at c.loop-i.i zero_f c.loop-i.invariant.2 in

@@ -1,3 +1,4 @@
+use native.Mathlib.Omega.{arith}
 use Prim.Native.Nat.{◌-◌}
 use mathlib.Core.Path.{sym, ap, ◌∙◌}
 use Rattle.laws.specs.Lists.{any}
@@ -12,11 +13,17 @@ use Rattle.prepared_candidates.proofs.disc_deep.Goals as goal
 pub loop-k-init : goal.loop-k-init
 loop-k-init c = ap (any (λ f. found_deep (disc_on_face c.args.d f))) (list_whole (face_at c.args.faces.now) c.args.n)
 
+pub overflow_add-k : goal.overflow_add-k
+overflow_add-k c = omega arith
+
 pub returns-then-found_deep : goal.returns-then-found_deep
 returns-then-found_deep c =
     let s = c in
     let loop = c.loop-k in
     sym (any-yes (λ f. found_deep (disc_on_face s.args.d f)) (face_at s.args.faces.now) s.args.n loop.k c.loop-k-test.true (ap (λ (f : Face). found_deep (disc_on_face s.args.d f)) (sym c.face_at-f.ensures) ∙ ap (λ m. found_deep m) (sym c.disc_on_face.ensures) ∙ sym c.found_deep.ensures ∙ c.if-found_deep.true)) ∙ loop.invariant
+
+pub loop-k-smaller : goal.loop-k-smaller
+loop-k-smaller c = omega arith
 
 pub loop-k-preserved : goal.loop-k-preserved
 loop-k-preserved c =

@@ -18,6 +18,9 @@ overflow_add-from c =
 pub overflow_add-k : goal.overflow_add-k
 overflow_add-k c = let q = c.requires.3 in omega arith
 
+pub loop-k-smaller : goal.loop-k-smaller
+loop-k-smaller c = omega arith
+
 pub loop-k-preserved : goal.loop-k-preserved
 loop-k-preserved c =
     let s = c in

@@ -5,7 +5,7 @@ use Rattle.prepared_candidates.proofs.Listed.{Listed}
 use Rattle.prepared_candidates.proofs.disc_on_discs.Given as goal
 
 abbrev pub invariant-loop-k : goal.invariant-loop-k
-invariant-loop-k l = Listed (read_discs (record { l.piece = l.piece; l.disc = l.disc })) (λ i. record { l.piece = piece_at l.names (l.from + i); l.disc = disc_at l.discs (0 + i) }) l.n l.at l.to l.k l.initial.near l.near l.initial.named l.named
+invariant-loop-k l = Listed (read_discs (record { piece = l.piece; disc = l.disc })) (λ i. record { piece = piece_at l.names (l.from + i); disc = disc_at l.discs (0 + i) }) l.n l.at l.to l.k l.initial.near l.near l.initial.named l.named
 
 abbrev pub decreases-loop-k : goal.decreases-loop-k
 decreases-loop-k l = l.n - l.k

@@ -25,6 +25,9 @@ disc_on_b-to-requires c =
 pub overflow_add-i : goal.overflow_add-i
 overflow_add-i c = let q = c.requires.0.discs_few in omega arith
 
+pub loop-i-smaller : goal.loop-i-smaller
+loop-i-smaller c = omega arith
+
 pub loop-i-preserved : goal.loop-i-preserved
 loop-i-preserved c =
     let s = c in

@@ -30,6 +30,9 @@ bounds-out-i c = let p = c.requires.0 in let w = c.loop-i.invariant.1.long in om
 pub overflow_add-i : goal.overflow_add-i
 overflow_add-i c = let q = c.requires.2 in omega arith
 
+pub loop-i-smaller : goal.loop-i-smaller
+loop-i-smaller c = omega arith
+
 pub loop-i-preserved : goal.loop-i-preserved
 loop-i-preserved c =
     let s = c in

@@ -18,6 +18,12 @@ overflow_add-sum c =
     let p = c.requires in
     omega (arith, v.0, v.2, e.1, p)
 
+pub overflow_add-i : goal.overflow_add-i
+overflow_add-i c = omega arith
+
+pub loop-i-smaller : goal.loop-i-smaller
+loop-i-smaller c = omega arith
+
 pub loop-i-preserved : goal.loop-i-preserved
 loop-i-preserved c =
     let l = c.loop-i in

@@ -14,6 +14,9 @@ use Rattle.prepared_rows.proofs.falls_off.Goals as goal
 pub loop-i-init : goal.loop-i-init
 loop-i-init c = (omega arith, ap (λ k. any_in (falls_off c.args.bodies c.args.sides.now) k 0) (sub-zero c.args.n))
 
+pub overflow_add-i : goal.overflow_add-i
+overflow_add-i c = omega arith
+
 pub returns-then-bodies-a : goal.returns-then-bodies-a
 returns-then-bodies-a c =
     let l = c.loop-i in
@@ -22,6 +25,9 @@ returns-then-bodies-a c =
     let y = body_read a.sides.now (row_b l.i) c.side_at-b.ensures.0 c.row_b.ensures in
     let e = ap₂ (λ v w. ltb a.bodies v || ltb a.bodies w) (sym x) (sym y) ∙ c.if-bodies-a.true in
     sym (sym l.invariant.1 ∙ any-yes (falls_off a.bodies a.sides.now) _ _ (omega arith) e)
+
+pub loop-i-smaller : goal.loop-i-smaller
+loop-i-smaller c = omega arith
 
 pub loop-i-preserved : goal.loop-i-preserved
 loop-i-preserved c =

@@ -24,6 +24,9 @@ put_pair-at-requires c =
 pub overflow_add-pair : goal.overflow_add-pair
 overflow_add-pair c = let f = c.requires.1 in omega (arith, f)
 
+pub loop-pair-smaller : goal.loop-pair-smaller
+loop-pair-smaller c = omega arith
+
 pub loop-pair-preserved : goal.loop-pair-preserved
 loop-pair-preserved c =
     let a = c.args in

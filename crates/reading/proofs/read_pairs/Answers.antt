@@ -47,6 +47,9 @@ overflow_add-i c =
     let f = (accepted-few s.args.m s.requires.0).pairs.count in
     omega arith
 
+pub loop-i-smaller : goal.loop-i-smaller
+loop-i-smaller c = omega arith
+
 pub loop-i-preserved : goal.loop-i-preserved
 loop-i-preserved c =
     let s = c in

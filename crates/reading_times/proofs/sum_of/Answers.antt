@@ -20,5 +20,11 @@ slice_bounds-read_in-end-in-loop-k-2 c = sym c.loop-k.invariant.3
 pub slice_bounds-read_in-end-in-loop-k-3 : goal.slice_bounds-read_in-end-in-loop-k-3
 slice_bounds-read_in-end-in-loop-k-3 c = sym c.loop-k.invariant.4
 
+pub overflow_add-k : goal.overflow_add-k
+overflow_add-k c = omega arith
+
+pub loop-k-smaller : goal.loop-k-smaller
+loop-k-smaller c = omega arith
+
 pub loop-k-preserved : goal.loop-k-preserved
 loop-k-preserved c = (omega arith, c.places-in-loop-k-1.given, c.values-in-loop-k-1.given, c.grad-in-loop-k-1.given, c.slip-in-loop-k-1.given)

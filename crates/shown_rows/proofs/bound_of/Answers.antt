@@ -32,6 +32,9 @@ overflow_add-sum c =
 pub overflow_add-i : goal.overflow_add-i
 overflow_add-i c = let f = (accepted-few c.args.m c.requires).pairs.count in omega arith
 
+pub loop-i-smaller : goal.loop-i-smaller
+loop-i-smaller c = omega arith
+
 pub loop-i-preserved : goal.loop-i-preserved
 loop-i-preserved c = (omega arith, ap₂ (λ x y. x + y) c.loop-i.invariant.1 c.pair_bound-sum.ensures ∙ sym (sum_more (pair_bound c.args.m) c.loop-i.i))
 

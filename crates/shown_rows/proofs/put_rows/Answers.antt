@@ -33,6 +33,9 @@ slice_bounds-put_shown-end-in-loop-i c = sym (there-named c.args.m c.requires.0 
 pub overflow_add-i : goal.overflow_add-i
 overflow_add-i c = let f = (accepted-few c.args.m c.requires.0).pairs.count in omega arith
 
+pub loop-i-smaller : goal.loop-i-smaller
+loop-i-smaller c = omega arith
+
 pub loop-i-preserved : goal.loop-i-preserved
 loop-i-preserved c =
     let m = c.args.m in (

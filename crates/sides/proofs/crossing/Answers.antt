@@ -1,10 +1,17 @@
 use Prim.Native.Nat.{◌-◌}
-use mathlib.Core.Path.{sym, ap, ◌∙◌}
+use native.Mathlib.Omega.{arith}
+use mathlib.Core.Path.{refl, sym, ap, ◌∙◌}
 use Rattle.geometry.specs.Geometry.{start_of}
 use Rattle.mechanism.specs.Segments.{outlines_in}
 use Rattle.silhouette.specs.Silhouette.{silhouette_from}
 use Rattle.sides.proofs.Walked.{cross_hit, cross_miss, cross_none}
 use Rattle.sides.proofs.crossing.Goals as goal
+
+pub loop-i-init : goal.loop-i-init
+loop-i-init c = refl
+
+pub overflow_add-i : goal.overflow_add-i
+overflow_add-i c = omega arith
 
 pub returns-then-same : goal.returns-then-same
 returns-then-same c =
@@ -12,6 +19,9 @@ returns-then-same c =
     let l = c.loop-i in
     let q = c.start-q.ensures ∙ ap start_of c.silhouette_seg-g.ensures in
     cross_hit s.axis (silhouette_from (outlines_in s.segs.now) s.first s.p) l.i s.past c.loop-i-test.true q (sym c.same.ensures ∙ c.if-same.true) ∙ l.invariant
+
+pub loop-i-smaller : goal.loop-i-smaller
+loop-i-smaller c = omega arith
 
 pub loop-i-preserved : goal.loop-i-preserved
 loop-i-preserved c =

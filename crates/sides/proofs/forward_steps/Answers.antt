@@ -14,6 +14,27 @@ use Rattle.sides.proofs.forward_steps.Goals as goal
 pub loop-i-init : goal.loop-i-init
 loop-i-init c = (omega arith, omega arith, omega arith, fill_from refl refl)
 
+pub offset_bounds-sil-i : goal.offset_bounds-sil-i
+offset_bounds-sil-i c = omega arith
+
+pub bounds-sil-i : goal.bounds-sil-i
+bounds-sil-i c = omega arith
+
+pub offset_bounds-all-k : goal.offset_bounds-all-k
+offset_bounds-all-k c = omega arith
+
+pub bounds-all-k : goal.bounds-all-k
+bounds-all-k c = omega arith
+
+pub overflow_add-k : goal.overflow_add-k
+overflow_add-k c = omega arith
+
+pub overflow_add-i : goal.overflow_add-i
+overflow_add-i c = omega arith
+
+pub loop-i-smaller : goal.loop-i-smaller
+loop-i-smaller c = omega arith
+
 pub loop-i-preserved : goal.loop-i-preserved
 loop-i-preserved c =
     let s = c in

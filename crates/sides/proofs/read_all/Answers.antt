@@ -17,6 +17,12 @@ use Rattle.sides.proofs.read_all.Goals as goal
 pub loop-k-init : goal.loop-k-init
 loop-k-init c = (omega arith, grown-as (sym (join_nothing _ 0)) (sym (join_nothing _ 0)) (grown-same _))
 
+pub offset_bounds-ts-k : goal.offset_bounds-ts-k
+offset_bounds-ts-k c = omega arith
+
+pub bounds-ts-k : goal.bounds-ts-k
+bounds-ts-k c = omega arith
+
 pub read_range-f-requires : goal.read_range-f-requires
 read_range-f-requires c =
     let s = c in
@@ -36,6 +42,12 @@ read_range-f-requires c =
     let p = sum-part (λ j. (F.run_at (F.runsIn ts) j).count) l.k (length (F.runsIn ts)) (omega arith) in
     let q = s.requires.1.few in
     (v.0, v.1, omega arith, omega arith)
+
+pub overflow_add-k : goal.overflow_add-k
+overflow_add-k c = omega arith
+
+pub loop-k-smaller : goal.loop-k-smaller
+loop-k-smaller c = omega arith
 
 pub loop-k-preserved : goal.loop-k-preserved
 loop-k-preserved c =

@@ -14,6 +14,12 @@ use Rattle.sides.proofs.read_steps.Goals as goal
 pub loop-i-init : goal.loop-i-init
 loop-i-init c = (omega arith, grown-as (sym (join_nothing _ 0)) (sym (join_nothing _ 0)) (grown-same _))
 
+pub offset_bounds-t-i : goal.offset_bounds-t-i
+offset_bounds-t-i c = omega arith
+
+pub bounds-t-i : goal.bounds-t-i
+bounds-t-i c = omega arith
+
 pub read_step-g-requires : goal.read_step-g-requires
 read_step-g-requires c =
     let s = c in
@@ -24,6 +30,12 @@ read_step-g-requires c =
     let p = faces_few (F.run_of s.args.t) l.i in
     let q = steps_few (F.run_of s.args.t) s.args.first l.i in
     omega arith
+
+pub overflow_add-i : goal.overflow_add-i
+overflow_add-i c = omega arith
+
+pub loop-i-smaller : goal.loop-i-smaller
+loop-i-smaller c = omega arith
 
 pub loop-i-preserved : goal.loop-i-preserved
 unfolding step_discs

@@ -34,6 +34,12 @@ bounds-all-k c =
     let m = c.loop-k.invariant.1 in
     omega arith
 
+pub overflow_add-k : goal.overflow_add-k
+overflow_add-k c = omega arith
+
+pub loop-k-smaller : goal.loop-k-smaller
+loop-k-smaller c = omega arith
+
 pub loop-k-preserved : goal.loop-k-preserved
 loop-k-preserved c =
     let s = c in

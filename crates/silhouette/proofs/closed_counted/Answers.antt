@@ -22,6 +22,9 @@ returns-then-n-lt2 c =
 pub loop-i-init : goal.loop-i-init
 loop-i-init c = (omega arith, rw sub-zero)
 
+pub overflow_add-i : goal.overflow_add-i
+overflow_add-i c = omega arith
+
 pub returns-then-not-joins_next : goal.returns-then-not-joins_next
 returns-then-not-joins_next c =
     let s = c in
@@ -31,6 +34,9 @@ returns-then-not-joins_next c =
     let l = c.loop-i in
     let q : any_in (λ k. not (joins_next (outline_in s.args.o) k)) s.args.o.count 0 ≡ true = sym l.invariant.1 ∙ any-yes (λ k. not (joins_next (outline_in s.args.o) k)) s.args.o.count l.i c.loop-i-test.true (ap not (sym c.joins_next.ensures) ∙ c.if-not-joins_next.true) in
     sym (closed_is (outline_in s.args.o) z c.if-n-lt2.false q)
+
+pub loop-i-smaller : goal.loop-i-smaller
+loop-i-smaller c = omega arith
 
 pub loop-i-preserved : goal.loop-i-preserved
 loop-i-preserved c =

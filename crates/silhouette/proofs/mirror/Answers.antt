@@ -18,6 +18,15 @@ loop-i-init c =
     let z = held-long s.args.o.count s.args.o.seg n in
     (omega arith, omega arith, starts (ap (λ m. map boxed (map (mirrored s.args.axis) (reverse m))) (take_all s.args.o.count (outline_in s.args.o) (omega arith))))
 
+pub overflow_sub-i : goal.overflow_sub-i
+overflow_sub-i c = omega arith
+
+pub offset_bounds-o-i : goal.offset_bounds-o-i
+offset_bounds-o-i c = omega arith
+
+pub bounds-o-i : goal.bounds-o-i
+bounds-o-i c = omega arith
+
 pub offset_bounds-seg-n : goal.offset_bounds-seg-n
 offset_bounds-seg-n c =
     let s = c in
@@ -31,6 +40,12 @@ bounds-seg-n c =
     let k = silhouette_long s.args.s _ s.well_formed.1.1.0 in
     let w = c.loop-i.invariant.2.long in
     omega arith
+
+pub overflow_add-n : goal.overflow_add-n
+overflow_add-n c = omega arith
+
+pub loop-i-smaller : goal.loop-i-smaller
+loop-i-smaller c = omega arith
 
 pub loop-i-preserved : goal.loop-i-preserved
 loop-i-preserved c =

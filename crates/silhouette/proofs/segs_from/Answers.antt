@@ -13,11 +13,26 @@ use Rattle.silhouette.proofs.segs_from.Goals as goal
 pub loop-i-init : goal.loop-i-init
 loop-i-init c = (omega arith, starts-blank 48 c.no_line-seg.ensures)
 
+pub overflow_add-seg : goal.overflow_add-seg
+overflow_add-seg c = omega arith
+
+pub offset_bounds-o-at : goal.offset_bounds-o-at
+offset_bounds-o-at c = omega arith
+
+pub bounds-o-at : goal.bounds-o-at
+bounds-o-at c = omega arith
+
 pub offset_bounds-seg-i : goal.offset_bounds-seg-i
 offset_bounds-seg-i c = let w = c.loop-i.invariant.1.long in omega arith
 
 pub bounds-seg-i : goal.bounds-seg-i
 bounds-seg-i c = let w = c.loop-i.invariant.1.long in omega arith
+
+pub overflow_add-i : goal.overflow_add-i
+overflow_add-i c = omega arith
+
+pub loop-i-smaller : goal.loop-i-smaller
+loop-i-smaller c = omega arith
 
 pub loop-i-preserved : goal.loop-i-preserved
 loop-i-preserved c =

@@ -27,6 +27,9 @@ overflow_add-at c =
 pub overflow_add-k : goal.overflow_add-k
 overflow_add-k c = let h = c.requires.0.count in omega arith
 
+pub loop-k-smaller : goal.loop-k-smaller
+loop-k-smaller c = omega arith
+
 pub loop-k-preserved : goal.loop-k-preserved
 loop-k-preserved c =
     let s = c in

@@ -12,11 +12,23 @@ use Rattle.silhouette.proofs.turned.Goals as goal
 pub loop-i-init : goal.loop-i-init
 loop-i-init c = (omega arith, starts-blank 94 c.no_line-seg.ensures)
 
+pub offset_bounds-o-i : goal.offset_bounds-o-i
+offset_bounds-o-i c = omega arith
+
+pub bounds-o-i : goal.bounds-o-i
+bounds-o-i c = omega arith
+
 pub offset_bounds-seg-i : goal.offset_bounds-seg-i
 offset_bounds-seg-i c = let w = c.loop-i.invariant.1.long in omega arith
 
 pub bounds-seg-i : goal.bounds-seg-i
 bounds-seg-i c = let w = c.loop-i.invariant.1.long in omega arith
+
+pub overflow_add-i : goal.overflow_add-i
+overflow_add-i c = omega arith
+
+pub loop-i-smaller : goal.loop-i-smaller
+loop-i-smaller c = omega arith
 
 pub loop-i-preserved : goal.loop-i-preserved
 loop-i-preserved c =

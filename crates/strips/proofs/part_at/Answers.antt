@@ -1,3 +1,4 @@
+use mathlib.Core.List.{[]}
 use mathlib.Core.Path.{sym, ap, subst}
 use lib.ListN.{get_or-eq_default, get_or}
 use Rattle.strips.specs.Strips.{part_from, SmallPart}

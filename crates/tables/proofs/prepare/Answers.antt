@@ -1,10 +1,22 @@
 use native.Mathlib.Omega.{arith}
-use mathlib.Core.Path.{◌≡◌, sym, ◌∙◌}
+use mathlib.Core.Path.{◌≡◌, sym, ap, ◌∙◌}
+use mathlib.Core.List.{List}
+use lib.Seq.{sets}
 use Rattle.mechanism.specs.Check.{check_of}
-use Rattle.bodies.specs.declared.Checked.TheVariants.{Accepted}
+use Rattle.bodies.specs.declared.Checked.{Checked}
+use Rattle.bodies.specs.declared.Checked.TheVariants.{Accepted, Refused}
+use Rattle.bodies.specs.declared.Problem.{Problem}
 use Rattle.mechanism.proofs.Checks.{accepted-few}
-use Rattle.tables.specs.Tables.{drawn_table, sampled_table, part_table, face_table, face_name_table, disc_table, disc_name_table, side_table, center_table, choice_table}
+use Rattle.tables.specs.Tables.{drawn_table, sampled_table, part_table, face_table, face_name_table, disc_table, disc_name_table, side_table, center_table, choice_table, written_if}
 use Rattle.tables.proofs.prepare.Goals as goal
+
+-- what an array holds where the description is accepted, and where it is refused
+module _ {A : Type 0} {c : Checked} (b t : List A) where
+  rows_written : {x : List A} → c ≡ Accepted → x ≡ sets b 0 t → x ≡ written_if c b t
+  rows_written e h = h ∙ ap (λ (k : Checked). written_if k b t) (sym e)
+
+  rows-kept : {p : Problem} → c ≡ Refused p → b ≡ written_if c b t
+  rows-kept e = ap (λ (k : Checked). written_if k b t) (sym e)
 
 pub put_all_parts-requires : goal.put_all_parts-requires
 put_all_parts-requires c =

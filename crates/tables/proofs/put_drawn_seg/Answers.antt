@@ -33,6 +33,9 @@ bounds-out-at c =
 pub overflow_add-k : goal.overflow_add-k
 overflow_add-k c = let h = (drawn-held c.args.s c.drawn-d.ensures).0 in omega arith
 
+pub loop-k-smaller : goal.loop-k-smaller
+loop-k-smaller c = omega arith
+
 pub loop-k-preserved : goal.loop-k-preserved
 loop-k-preserved c =
     let h = (drawn-held c.args.s c.drawn-d.ensures).0 in

@@ -17,6 +17,15 @@ offset_bounds-out-to c = let w = c.loop-k.invariant.2.long in omega arith
 pub bounds-out-to : goal.bounds-out-to
 bounds-out-to c = let w = c.loop-k.invariant.2.long in omega arith
 
+pub overflow_add-k : goal.overflow_add-k
+overflow_add-k c = omega arith
+
+pub overflow_add-to : goal.overflow_add-to
+overflow_add-to c = omega arith
+
+pub loop-k-smaller : goal.loop-k-smaller
+loop-k-smaller c = omega arith
+
 pub loop-k-preserved : goal.loop-k-preserved
 loop-k-preserved c =
     let l = c.loop-k in

@@ -1,7 +1,7 @@
 use native.Mathlib.Omega.{arith}
 use Prim.Native.Nat.{◌+◌, ◌*◌}
 use mathlib.Core.Path.{ap, ◌∙◌}
-use mathlib.Core.List.{◌∷◌}
+use mathlib.Core.List.{[], ◌∷◌}
 use lib.Seq.{sets}
 use Rattle.drawing.specs.Drawing.{row_of}
 use Rattle.sides.specs.declared.contacts.PairFeatures.{PairFeatures}

@@ -35,6 +35,9 @@ put_pair-requires c =
 pub overflow_add-i : goal.overflow_add-i
 overflow_add-i c = let f = (accepted-few c.args.m c.requires.0).pairs.count in omega arith
 
+pub loop-i-smaller : goal.loop-i-smaller
+loop-i-smaller c = omega arith
+
 pub loop-i-preserved : goal.loop-i-preserved
 loop-i-preserved c =
     let l = c.loop-i in

@@ -53,6 +53,9 @@ overflow_add-first c =
 pub overflow_add-i : goal.overflow_add-i
 overflow_add-i c = let h = c.requires.0.count in omega arith
 
+pub loop-i-smaller : goal.loop-i-smaller
+loop-i-smaller c = omega arith
+
 pub loop-i-preserved : goal.loop-i-preserved
 loop-i-preserved c =
     let l = c.loop-i in

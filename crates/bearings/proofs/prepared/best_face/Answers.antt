@@ -22,6 +22,9 @@ overflow_add-i c = let p = c.requires in omega arith
 pub meets_any-requires : goal.meets_any-requires
 meets_any-requires c = c.requires.0
 
+pub loop-i-smaller-then-best-n : goal.loop-i-smaller-then-best-n
+loop-i-smaller-then-best-n c = omega arith
+
 pub loop-i-preserved-then-best-n : goal.loop-i-preserved-then-best-n
 loop-i-preserved-then-best-n c =
     let a = c.args in
@@ -32,6 +35,9 @@ loop-i-preserved-then-best-n c =
     let meets = ap (λ x. any (meets_row x) (take a.m a.ends.now)) (sym g) ∙ sym c.Meets-any.ensures ∙ c.if-meets_any.true in
     walked_takes loop.invariant (list_long f a.n) h meets (c.score-x.ensures ∙ ap (score_of a.k) g) c.total_order.ensures c.if-best-n.true
 
+pub loop-i-smaller-else-best-n : goal.loop-i-smaller-else-best-n
+loop-i-smaller-else-best-n c = omega arith
+
 pub loop-i-preserved-else-best-n : goal.loop-i-preserved-else-best-n
 loop-i-preserved-else-best-n c =
     let a = c.args in
@@ -41,6 +47,9 @@ loop-i-preserved-else-best-n c =
     let g = part-read f a.n (λ x. x.face) no_face loop.i h c.face_at-f.ensures in
     let meets = ap (λ x. any (meets_row x) (take a.m a.ends.now)) (sym g) ∙ sym c.Meets-any.ensures ∙ c.if-meets_any.true in
     walked_stays loop.invariant (list_long f a.n) h meets (c.score-x.ensures ∙ ap (score_of a.k) g) c.total_order.ensures c.if-best-n.false
+
+pub loop-i-smaller : goal.loop-i-smaller
+loop-i-smaller c = omega arith
 
 pub loop-i-preserved : goal.loop-i-preserved
 loop-i-preserved c =

@@ -27,6 +27,9 @@ returns-then-same_piece c =
     ap SomeFace (part-read f a.n (λ x. x.face) no_face loop.i h c.face_at.ensures)
     ∙ sym (named-yes a.piece _ a.n loop.i (list_long f a.n) no_face h same) ∙ loop.invariant
 
+pub loop-i-smaller : goal.loop-i-smaller
+loop-i-smaller c = omega arith
+
 pub loop-i-preserved : goal.loop-i-preserved
 loop-i-preserved c =
     let a = c.args in

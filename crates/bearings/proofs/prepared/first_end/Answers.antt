@@ -26,6 +26,9 @@ returns-then-same_piece c =
     let d = part-read f a.n (λ x. x.disc) no_disc loop.i h c.disc_at-d.ensures in
     sym (first-yes a.piece _ a.n loop.i (list_long f a.n) no_disc h same (c.on_circle.ensures ∙ ap start_of_disc d)) ∙ loop.invariant
 
+pub loop-i-smaller : goal.loop-i-smaller
+loop-i-smaller c = omega arith
+
 pub loop-i-preserved : goal.loop-i-preserved
 loop-i-preserved c =
     let a = c.args in

@@ -1,5 +1,6 @@
 use native.Mathlib.Omega.{arith}
 use mathlib.Core.Path.{sym, ap, ap₂, ◌∙◌}
+use mathlib.Core.List.{[]}
 use lib.ListN.{length}
 use Rattle.mechanism.specs.Rows.{pair_in, gap_in}
 use Rattle.strips.specs.Strips.{side_at, row_a, row_b}

@@ -40,6 +40,9 @@ overflow_add-at-then-same_piece c =
     let f = c.loop-i.invariant.few in
     omega arith
 
+pub loop-i-smaller-then-same_piece : goal.loop-i-smaller-then-same_piece
+loop-i-smaller-then-same_piece c = omega arith
+
 pub loop-i-preserved-then-same_piece : goal.loop-i-preserved-then-same_piece
 loop-i-preserved-then-same_piece c =
     let a = c.args in
@@ -49,6 +52,9 @@ loop-i-preserved-then-same_piece c =
     let same = same_read f a.n a.piece (λ x. x.piece) no_disc loop.i h c.piece_at.ensures c.same_piece.ensures c.if-same_piece.true in
     let d = part-read f a.n (λ x. x.disc) no_disc loop.i h c.disc_at-d.ensures in
     put_two loop.invariant no_disc (list_long f a.n) h same (c.on_circle-a.ensures ∙ ap start_of_disc d) (c.on_circle-b.ensures ∙ ap end_of_disc d)
+
+pub loop-i-smaller : goal.loop-i-smaller
+loop-i-smaller c = omega arith
 
 pub loop-i-preserved : goal.loop-i-preserved
 loop-i-preserved c =

@@ -8,6 +8,9 @@ use Rattle.bodies.proofs.pose.columns_at.Goals as goal
 pub loop-steps-init : goal.loop-steps-init
 loop-steps-init c = (omega arith, starts refl)
 
+pub overflow_sub-steps : goal.overflow_sub-steps
+overflow_sub-steps c = omega arith
+
 pub returns-then-at : goal.returns-then-at
 returns-then-at c = columns_done (up_none _ _ _ _ _ c.if-at.true) c.loop-steps.invariant.1
 
@@ -55,8 +58,14 @@ bounds-out-n c = let w = c.loop-steps.invariant.1.long in omega arith
 pub overflow_add-n : goal.overflow_add-n
 overflow_add-n c = let w = c.loop-steps.invariant.1.long in omega arith
 
+pub loop-steps-smaller-in-SomeColumn : goal.loop-steps-smaller-in-SomeColumn
+loop-steps-smaller-in-SomeColumn c = omega arith
+
 pub loop-steps-preserved-in-SomeColumn : goal.loop-steps-preserved-in-SomeColumn
 loop-steps-preserved-in-SomeColumn c = (omega arith, puts (turn-some _ _ _ _ _ (omega arith) c.if-at.false c.joint_column-found.ensures c.in-SomeColumn.is) c.loop-steps.invariant.1)
+
+pub loop-steps-smaller : goal.loop-steps-smaller
+loop-steps-smaller c = omega arith
 
 pub loop-steps-preserved : goal.loop-steps-preserved
 loop-steps-preserved c = (omega arith, goes_on (turn-none _ _ _ _ _ (omega arith) c.if-at.false c.joint_column-found.ensures c.in-NoColumn.is) c.loop-steps.invariant.1)

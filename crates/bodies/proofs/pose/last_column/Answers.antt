@@ -18,8 +18,14 @@ bounds-k-i c = let h = c.requires.0 in omega arith
 pub overflow_add-i : goal.overflow_add-i
 overflow_add-i c = let h = c.requires.0 in omega arith
 
+pub loop-i-smaller-then-c-coord : goal.loop-i-smaller-then-c-coord
+loop-i-smaller-then-c-coord c = omega arith
+
 pub loop-i-preserved-then-c-coord : goal.loop-i-preserved-then-c-coord
 loop-i-preserved-then-c-coord c = (omega arith, last_turn _ _ _ c.requires.1 _ _ c.loop-i.i c.loop-i-test.true (cond_yes _ _ (eq-eqb _ _ c.if-c-coord.true)) ∙ c.loop-i.invariant.1)
+
+pub loop-i-smaller : goal.loop-i-smaller
+loop-i-smaller c = omega arith
 
 pub loop-i-preserved : goal.loop-i-preserved
 loop-i-preserved c = (omega arith, last_turn _ _ _ c.requires.1 _ _ c.loop-i.i c.loop-i-test.true (cond_no _ _ (ne_eqb _ _ c.if-c-coord.false)) ∙ c.loop-i.invariant.1)

@@ -45,6 +45,9 @@ bounds-placed-i c = let h = c.requires.few in omega arith
 pub overflow_add-i : goal.overflow_add-i
 overflow_add-i c = let h = c.requires.few in omega arith
 
+pub loop-i-smaller : goal.loop-i-smaller
+loop-i-smaller c = omega arith
+
 pub loop-i-preserved : goal.loop-i-preserved
 loop-i-preserved c = (omega arith, simp length-set c.loop-i.invariant.1, fold_on _ _ c.loop-i.i c.loop-i-test.true (ap (set c.loop-i.placed (c.loop-i.i + 1)) (sym c.place.ensures)) ∙ c.loop-i.invariant.2)
 

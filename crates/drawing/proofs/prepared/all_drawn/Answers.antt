@@ -20,6 +20,9 @@ overflow_add-sum c =
 pub overflow_add-i : goal.overflow_add-i
 overflow_add-i c = let v = c.loop-i.invariant in omega (arith, v.1)
 
+pub loop-i-smaller : goal.loop-i-smaller
+loop-i-smaller c = omega arith
+
 pub loop-i-preserved : goal.loop-i-preserved
 loop-i-preserved c =
     let l = c.loop-i in

@@ -48,11 +48,17 @@ bounds-starts-k c =
     let p = lays_place _ _ _ _ l.invariant (omega (arith, e)) (eq-eqb _ _ c.if-c-j.true) s.requires.1 in
     omega (arith, p)
 
+pub loop-i-smaller-then-c-j : goal.loop-i-smaller-then-c-j
+loop-i-smaller-then-c-j c = omega arith
+
 pub loop-i-preserved-then-c-j : goal.loop-i-preserved-then-c-j
 loop-i-preserved-then-c-j c =
     let l = c.loop-i in
     let e = c.part_count-n.ensures.0 in
     lays_more _ _ _ _ l.invariant (omega (arith, e)) (eq-eqb _ _ c.if-c-j.true) c.draw_part-at.ensures
+
+pub loop-i-smaller : goal.loop-i-smaller
+loop-i-smaller c = omega arith
 
 pub loop-i-preserved : goal.loop-i-preserved
 loop-i-preserved c =

@@ -37,6 +37,9 @@ overflow_add-i c =
     let w = c.loop-i.invariant.2.long in
     omega (arith, p.0, p.2, w)
 
+pub loop-i-smaller : goal.loop-i-smaller
+loop-i-smaller c = omega arith
+
 pub loop-i-preserved : goal.loop-i-preserved
 loop-i-preserved c =
     let l = c.loop-i in

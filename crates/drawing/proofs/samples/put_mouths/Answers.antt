@@ -35,6 +35,9 @@ put_ends-at-requires c =
     let s = c in
     asks_ends s.args.segs.now l.invariant.1 s.requires.0 c.loop-i-test.true l.invariant.0 s.requires.1 s.requires.2
 
+pub loop-i-smaller-then-is_read_cut : goal.loop-i-smaller-then-is_read_cut
+loop-i-smaller-then-is_read_cut c = omega arith
+
 pub loop-i-preserved-then-is_read_cut : goal.loop-i-preserved-then-is_read_cut
 loop-i-preserved-then-is_read_cut c =
     let l = c.loop-i in
@@ -44,6 +47,9 @@ loop-i-preserved-then-is_read_cut c =
       ap (λ (n : ℕ). n + segs_of ps l.i) l.invariant.0 ∙ sym (sum_more (segs_of ps) l.i),
       mouths-more l.invariant.1 h (sym c.is_read_cut.ensures ∙ c.if-is_read_cut.true) (from-part ps (outlines_in s.args.segs.now) l.i s.requires.0 h l.invariant.0) c.put_ends-at.ensures,
     )
+
+pub loop-i-smaller : goal.loop-i-smaller
+loop-i-smaller c = omega arith
 
 pub loop-i-preserved : goal.loop-i-preserved
 loop-i-preserved c =

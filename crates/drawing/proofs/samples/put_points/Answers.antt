@@ -1,6 +1,10 @@
+use native.Mathlib.Omega.{arith}
 use Rattle.bodies.specs.Pose.{world_of}
 use Rattle.drawing.proofs.Mouths.{of-line, of-arc}
 use Rattle.drawing.proofs.samples.put_points.Goals as goal
+
+pub draw_seg-requires : goal.draw_seg-requires
+draw_seg-requires c = omega arith
 
 pub returns-in-Line : goal.returns-in-Line
 returns-in-Line c =

@@ -32,6 +32,9 @@ past-deepest-requires c =
     let s = c in
     (c.loop-i.invariant.1, s.requires.2, s.requires.3)
 
+pub loop-i-smaller-then-is_long : goal.loop-i-smaller-then-is_long
+loop-i-smaller-then-is_long c = omega arith
+
 pub loop-i-preserved-then-is_long : goal.loop-i-preserved-then-is_long
 loop-i-preserved-then-is_long c =
     let l = c.loop-i in
@@ -41,6 +44,9 @@ loop-i-preserved-then-is_long c =
     let fs = list_in (face_at s.faces.now) s.m s.b in
     let g = step-taken s.pa s.pb fs l.deepest f.result c.world-a0.ensures c.world-a1.ensures c.sub-e.ensures c.dot.ensures c.is_long.ensures c.if-is_long.true c.vector-v.ensures c.rotate-w.ensures c.past-deepest.ensures.0 in
     (omega (arith, h), c.past-deepest.ensures.1, fold_read (step_of s.pa s.pb fs) (λ k. face_at s.faces.now (s.a + k)) s.n l.i h f.ensures g ∙ l.invariant.2)
+
+pub loop-i-smaller : goal.loop-i-smaller
+loop-i-smaller c = omega arith
 
 pub loop-i-preserved : goal.loop-i-preserved
 loop-i-preserved c =

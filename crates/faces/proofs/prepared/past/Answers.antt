@@ -25,6 +25,9 @@ overflow_add-i c = let q = c.requires.2 in omega arith
 pub over-d-requires : goal.over-d-requires
 over-d-requires c = c.loop-i.invariant.1
 
+pub loop-i-smaller : goal.loop-i-smaller
+loop-i-smaller c = omega arith
+
 pub loop-i-preserved : goal.loop-i-preserved
 loop-i-preserved c =
     let l = c.loop-i in

@@ -26,6 +26,9 @@ pub returns-then-is_refused : goal.returns-then-is_refused
 unfolding pairs_checked
 returns-then-is_refused c = sym (sym c.loop-i.invariant.1 ∙ first-hit _ _ _ _ c.loop-i.i c.loop-i-test.true (sym c.pair_checked-c.ensures) (not_yes _ (sym c.is_refused.ensures ∙ c.if-is_refused.true)))
 
+pub loop-i-smaller : goal.loop-i-smaller
+loop-i-smaller c = omega arith
+
 pub loop-i-preserved : goal.loop-i-preserved
 loop-i-preserved c = (omega arith, sym (first-miss _ _ _ _ c.loop-i.i c.loop-i-test.true (sym c.pair_checked-c.ensures) (not_no _ (sym c.is_refused.ensures ∙ c.if-is_refused.false))) ∙ c.loop-i.invariant.1)
 

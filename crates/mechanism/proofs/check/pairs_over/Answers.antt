@@ -15,9 +15,21 @@ returns-then-n-gt16 c = sym (or_yes _ (lt-ltb _ _ c.if-n-gt16.true))
 pub loop-i-init : goal.loop-i-init
 loop-i-init c = (omega arith, simp sub-zero)
 
+pub offset_bounds-p-i : goal.offset_bounds-p-i
+offset_bounds-p-i c = omega arith
+
+pub bounds-p-i : goal.bounds-p-i
+bounds-p-i c = omega arith
+
+pub overflow_add-i : goal.overflow_add-i
+overflow_add-i c = omega arith
+
 pub returns-then-pair_over : goal.returns-then-pair_over
 unfolding pairs_over
 returns-then-pair_over c = sym (or_no _ (le-ltb _ _ c.if-n-gt16.false) ∙ sym c.loop-i.invariant.1 ∙ any-yes _ _ c.loop-i.i c.loop-i-test.true (sym c.pair_over.ensures ∙ c.if-pair_over.true))
+
+pub loop-i-smaller : goal.loop-i-smaller
+loop-i-smaller c = omega arith
 
 pub loop-i-preserved : goal.loop-i-preserved
 loop-i-preserved c = (omega arith, sym (any-no _ _ c.loop-i.i c.loop-i-test.true (sym c.pair_over.ensures ∙ c.if-pair_over.false)) ∙ c.loop-i.invariant.1)

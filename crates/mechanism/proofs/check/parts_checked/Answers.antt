@@ -52,6 +52,9 @@ returns-then-is_refused c =
     let l = c.loop-i in
     sym (sym l.invariant.2 ∙ first-hit _ _ _ _ l.i c.loop-i-test.true (part-at s.args.bodies s.args.segs.now s.args.p l.i c.part_checked-c.ensures l.invariant.1) (not_yes _ (sym c.is_refused.ensures ∙ c.if-is_refused.true)))
 
+pub loop-i-smaller : goal.loop-i-smaller
+loop-i-smaller c = omega arith
+
 pub loop-i-preserved : goal.loop-i-preserved
 loop-i-preserved c =
     let s = c in

@@ -11,6 +11,15 @@ use Rattle.mechanism.proofs.check.side_body.Goals as goal
 pub loop-i-init : goal.loop-i-init
 loop-i-init c = (omega arith, simp sub-zero)
 
+pub offset_bounds-u-i : goal.offset_bounds-u-i
+offset_bounds-u-i c = omega arith
+
+pub bounds-u-i : goal.bounds-u-i
+bounds-u-i c = omega arith
+
+pub overflow_add-i : goal.overflow_add-i
+overflow_add-i c = omega arith
+
 pub offset_bounds-ps-k : goal.offset_bounds-ps-k
 offset_bounds-ps-k c = let h = c.requires.0.count in omega arith
 
@@ -20,8 +29,14 @@ bounds-ps-k c = let h = c.requires.0.count in omega arith
 pub with_part-s-requires : goal.with_part-s-requires
 with_part-s-requires c = c.requires.0.each _ c.if-k-parts.true
 
+pub loop-i-smaller-then-k-parts : goal.loop-i-smaller-then-k-parts
+loop-i-smaller-then-k-parts c = omega arith
+
 pub loop-i-preserved-then-k-parts : goal.loop-i-preserved-then-k-parts
 loop-i-preserved-then-k-parts c = (omega arith, fold_on _ _ c.loop-i.i c.loop-i-test.true (range-of-part c.args.ps c.args.pair c.loop-i.s (range_at c.args.u c.loop-i.i) c.if-k-parts.true ∙ sym c.with_part-s.ensures) ∙ c.loop-i.invariant.1)
+
+pub loop-i-smaller : goal.loop-i-smaller
+loop-i-smaller c = omega arith
 
 pub loop-i-preserved : goal.loop-i-preserved
 loop-i-preserved c = (omega arith, fold_on _ _ c.loop-i.i c.loop-i-test.true (range-of-none c.args.ps c.args.pair c.loop-i.s (range_at c.args.u c.loop-i.i) c.if-k-parts.false ∙ sym c.with_drawn-s.ensures) ∙ c.loop-i.invariant.1)

@@ -9,11 +9,23 @@ use Rattle.mechanism.proofs.segments.put_rows.Goals as goal
 pub loop-i-init : goal.loop-i-init
 loop-i-init c = (omega arith, starts refl)
 
+pub offset_bounds-o-i : goal.offset_bounds-o-i
+offset_bounds-o-i c = omega arith
+
+pub bounds-o-i : goal.bounds-o-i
+bounds-o-i c = omega arith
+
 pub offset_bounds-out-i : goal.offset_bounds-out-i
 offset_bounds-out-i c = let w = c.loop-i.invariant.1.long in omega (arith, w)
 
 pub bounds-out-i : goal.bounds-out-i
 bounds-out-i c = let w = c.loop-i.invariant.1.long in omega (arith, w)
+
+pub overflow_add-i : goal.overflow_add-i
+overflow_add-i c = omega arith
+
+pub loop-i-smaller : goal.loop-i-smaller
+loop-i-smaller c = omega arith
 
 pub loop-i-preserved : goal.loop-i-preserved
 loop-i-preserved c =

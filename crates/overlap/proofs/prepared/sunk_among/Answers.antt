@@ -25,6 +25,9 @@ bounds-w-j c = let h = c.part_count-count.ensures.1 in omega arith
 pub sunk_part-d-requires : goal.sunk_part-d-requires
 sunk_part-d-requires c = let p = c.part_at-p.ensures.1 in (p.sampled_small, p.samples_few, c.y_range-range.ensures)
 
+pub loop-i-smaller-then-w-j-eq1 : goal.loop-i-smaller-then-w-j-eq1
+loop-i-smaller-then-w-j-eq1 c = omega arith
+
 pub loop-i-preserved-then-w-j-eq1 : goal.loop-i-preserved-then-w-j-eq1
 loop-i-preserved-then-w-j-eq1 c =
     let l = c.loop-i in
@@ -36,6 +39,9 @@ loop-i-preserved-then-w-j-eq1 c =
       sunk_plain m f (chosen_as s.w 1) (parts_in s.parts.now) l.d l.i l.invariant.0 taken,
       sunk_more m f (chosen_as s.w 1) (parts_in s.parts.now) l.d l.i l.invariant.0 taken (omega (arith, n)) (eq-eqb _ 1 c.if-w-j-eq1.true) ∙ l.invariant.1,
     )
+
+pub loop-i-smaller : goal.loop-i-smaller
+loop-i-smaller c = omega arith
 
 pub loop-i-preserved : goal.loop-i-preserved
 loop-i-preserved c =

@@ -17,6 +17,12 @@ loop-i-init c =
 pub overflow_add-first : goal.overflow_add-first
 overflow_add-first c = let h = c.requires in omega (arith, h.0, h.1)
 
+pub overflow_add-i : goal.overflow_add-i
+overflow_add-i c = omega arith
+
+pub loop-i-smaller : goal.loop-i-smaller
+loop-i-smaller c = omega arith
+
 pub loop-i-preserved : goal.loop-i-preserved
 loop-i-preserved c =
     let l = c.loop-i in

@@ -28,6 +28,9 @@ overflow_add-i c =
     let f = c.requires.0 in
     omega (arith, f, w)
 
+pub loop-i-smaller : goal.loop-i-smaller
+loop-i-smaller c = omega arith
+
 pub loop-i-preserved : goal.loop-i-preserved
 loop-i-preserved c =
     let s = c in

@@ -8,11 +8,23 @@ loop-left-init c =
     let args = c.args in
     writes_start args.out.now args.at args.base args.n args.v
 
+pub overflow_sub-left : goal.overflow_sub-left
+overflow_sub-left c = omega arith
+
 pub digit-requires : goal.digit-requires
 digit-requires c =
     let args = c.args in
     let loop = c.loop-left in
     omega (arith, mod-lt loop.rest {m = args.base} (omega arith))
+
+pub overflow_add-out : goal.overflow_add-out
+overflow_add-out c = omega arith
+
+pub bounds-out-at : goal.bounds-out-at
+bounds-out-at c = omega arith
+
+pub loop-left-smaller : goal.loop-left-smaller
+loop-left-smaller c = omega arith
 
 pub loop-left-preserved : goal.loop-left-preserved
 loop-left-preserved c = writes_more c.loop-left.invariant c.digit.result c.loop-left-test.true c.digit.ensures

@@ -8,6 +8,9 @@ use Rattle.reading_lines.proofs.digits.put_pattern.Goals as goal
 pub put_digits-requires : goal.put_digits-requires
 put_digits-requires c = (omega arith, omega arith, omega arith)
 
+pub overflow_add-result : goal.overflow_add-result
+overflow_add-result c = omega arith
+
 pub returns : goal.returns
 unfolding pattern_of
 returns c =

@@ -47,6 +47,9 @@ overflow_add-i c =
     let h = c.requires.1 in
     omega arith
 
+pub loop-i-smaller : goal.loop-i-smaller
+loop-i-smaller c = omega arith
+
 pub loop-i-preserved : goal.loop-i-preserved
 loop-i-preserved c =
     let a = c.args in

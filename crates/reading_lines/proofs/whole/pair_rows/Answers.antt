@@ -21,17 +21,29 @@ bounds-places-j c =
     let h = c.requires.0.placed in
     omega arith
 
+pub overflow_add-j : goal.overflow_add-j
+overflow_add-j c = omega arith
+
+pub bounds-x-0 : goal.bounds-x-0
+bounds-x-0 c = omega arith
+
 pub row_lines-k-requires : goal.row_lines-k-requires
 row_lines-k-requires c =
     let p = c.loop-j.invariant in
     let t = c.loop-j-test.true in
     (c.requires.0, t, room_as (cond_yes _ _ (eq-eqb _ _ c.if-x-i.true)) (parts-room p t))
 
+pub loop-j-smaller-then-x-i : goal.loop-j-smaller-then-x-i
+loop-j-smaller-then-x-i c = omega arith
+
 pub loop-j-preserved-then-x-i : goal.loop-j-preserved-then-x-i
 loop-j-preserved-then-x-i c =
     let p = c.loop-j.invariant in
     let t = c.loop-j-test.true in
     parts_more p t (wrote_as (cond_yes _ _ (eq-eqb _ _ c.if-x-i.true)) c.row_lines-k.ensures)
+
+pub loop-j-smaller : goal.loop-j-smaller
+loop-j-smaller c = omega arith
 
 pub loop-j-preserved : goal.loop-j-preserved
 loop-j-preserved c = parts-skip c.loop-j.invariant c.loop-j-test.true (cond_no _ _ (ne_eqb _ _ c.if-x-i.false))

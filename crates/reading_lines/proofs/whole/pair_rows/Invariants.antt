@@ -1,4 +1,5 @@
 use Prim.Native.Nat.{◌-◌}
+use mathlib.Core.List.{[]}
 use mathlib.Core.Bool.{cond}
 use lib.Dec.{eqb}
 use Rattle.mechanism.specs.Rows.{pair_in}

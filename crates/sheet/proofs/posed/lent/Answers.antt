@@ -31,6 +31,12 @@ bounds-q-i c =
     let h = c.loop-i.invariant.long in
     omega arith
 
+pub overflow_add-i : goal.overflow_add-i
+overflow_add-i c = omega arith
+
+pub loop-i-smaller : goal.loop-i-smaller
+loop-i-smaller c = omega arith
+
 pub loop-i-preserved : goal.loop-i-preserved
 loop-i-preserved c = lents_more _ (entries-long c.args.e _ c.well_formed.0) c.loop-i.invariant c.loop-i-test.true
 

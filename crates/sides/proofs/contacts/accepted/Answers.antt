@@ -8,6 +8,12 @@ use Rattle.sides.proofs.contacts.accepted.Goals as goal
 pub loop-i-init : goal.loop-i-init
 loop-i-init c = (omega arith, pairs_start c.args.ps c.args.o c.args.pairs c.no_pair_features-all.ensures)
 
+pub offset_bounds-pairs-i : goal.offset_bounds-pairs-i
+offset_bounds-pairs-i c = omega arith
+
+pub bounds-pairs-i : goal.bounds-pairs-i
+bounds-pairs-i c = omega arith
+
 pub pair_features-requires : goal.pair_features-requires
 pair_features-requires c =
     let p = c.requires in
@@ -19,6 +25,12 @@ offset_bounds-all-i c = let w = c.loop-i.invariant.1.long in omega arith
 
 pub bounds-all-i : goal.bounds-all-i
 bounds-all-i c = let w = c.loop-i.invariant.1.long in omega arith
+
+pub overflow_add-i : goal.overflow_add-i
+overflow_add-i c = omega arith
+
+pub loop-i-smaller : goal.loop-i-smaller
+loop-i-smaller c = omega arith
 
 pub loop-i-preserved : goal.loop-i-preserved
 loop-i-preserved c =

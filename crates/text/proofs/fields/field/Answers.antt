@@ -32,6 +32,12 @@ overflow_add-at c =
     let p = piece args.line.now 44 loop.at find.result loop.invariant.within find.ensures in
     omega arith
 
+pub overflow_add-i : goal.overflow_add-i
+overflow_add-i c = omega arith
+
+pub loop-i-smaller : goal.loop-i-smaller
+loop-i-smaller c = omega arith
+
 pub loop-i-preserved : goal.loop-i-preserved
 loop-i-preserved c =
     let args = c.args in

@@ -16,6 +16,9 @@ slice_bounds-f-count c =
     let p = piece args.line.now 44 loop.at c.find-e.result loop.invariant.within c.find-e.ensures in
     omega arith
 
+pub bounds-form-j : goal.bounds-form-j
+bounds-form-j c = omega arith
+
 pub returns-then-not-is_kind : goal.returns-then-not-is_kind
 returns-then-not-is_kind c =
     let args = c.args in
@@ -24,6 +27,9 @@ returns-then-not-is_kind c =
     let loop-test = c.loop-j-test in
     let p = piece args.line.now 44 loop.at find.result loop.invariant.within find.ensures in
     fits-no loop-test.true loop.invariant p (sym c.is_kind.ensures ∙ not-true _ c.if-not-is_kind.true)
+
+pub overflow_add-j : goal.overflow_add-j
+overflow_add-j c = omega arith
 
 pub returns-then-e-line : goal.returns-then-e-line
 returns-then-e-line c =
@@ -42,6 +48,9 @@ overflow_add-at c =
     let find = c.find-e in
     let p = piece args.line.now 44 loop.at find.result loop.invariant.within find.ensures in
     omega arith
+
+pub loop-j-smaller : goal.loop-j-smaller
+loop-j-smaller c = omega arith
 
 pub loop-j-preserved : goal.loop-j-preserved
 loop-j-preserved c =

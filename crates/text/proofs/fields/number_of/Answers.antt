@@ -16,11 +16,17 @@ loop-i-init c =
     let args = c.args in
     digits-start args.f.now (sym c.well_written.ensures ∙ not-false _ c.if-not-well_written.false)
 
+pub bounds-f-i : goal.bounds-f-i
+bounds-f-i c = omega arith
+
 pub returns-then-not-is_digit : goal.returns-then-not-is_digit
 returns-then-not-is_digit c =
     let loop = c.loop-i in
     let loop-test = c.loop-i-test in
     not_digit loop-test.true loop.invariant (sym c.is_digit.ensures ∙ not-true _ c.if-not-is_digit.true)
+
+pub overflow_mul-v : goal.overflow_mul-v
+overflow_mul-v c = omega arith
 
 pub overflow_cast-v : goal.overflow_cast-v
 overflow_cast-v c =
@@ -45,6 +51,12 @@ returns-then-v-gt65535 c =
     let loop = c.loop-i in
     let loop-test = c.loop-i-test in
     too_large loop-test.true loop.invariant (omega arith)
+
+pub overflow_add-i : goal.overflow_add-i
+overflow_add-i c = omega arith
+
+pub loop-i-smaller : goal.loop-i-smaller
+loop-i-smaller c = omega arith
 
 pub loop-i-preserved : goal.loop-i-preserved
 loop-i-preserved c =

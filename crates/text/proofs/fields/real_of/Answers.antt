@@ -11,6 +11,9 @@ returns-then-f-ne16 c = not_sixteen c.args.f.now c.if-f-ne16.true
 pub loop-k-init : goal.loop-k-init
 loop-k-init c = hexes_start c.args.f.now c.if-f-ne16.false
 
+pub bounds-f-k : goal.bounds-f-k
+bounds-f-k c = omega arith
+
 pub returns-then-not-is_hex : goal.returns-then-not-is_hex
 returns-then-not-is_hex c =
     let loop = c.loop-k in
@@ -31,6 +34,12 @@ overflow_add-v c =
     let loop = c.loop-k in
     let loop-test = c.loop-k-test in
     omega (arith, hexes_room loop-test.true loop.invariant)
+
+pub overflow_add-k : goal.overflow_add-k
+overflow_add-k c = omega arith
+
+pub loop-k-smaller : goal.loop-k-smaller
+loop-k-smaller c = omega arith
 
 pub loop-k-preserved : goal.loop-k-preserved
 loop-k-preserved c =

@@ -1,0 +1,27 @@
+use Prim.Native.Nat.{◌-◌}
+use native.Mathlib.Omega.{arith}
+use Rattle.room_calls.proofs.are_entries.Goals as goal
+
+pub loop-i-init : goal.loop-i-init
+loop-i-init c = omega arith
+
+pub offset_bounds-a-i : goal.offset_bounds-a-i
+offset_bounds-a-i c = omega arith
+
+pub bounds-a-i : goal.bounds-a-i
+bounds-a-i c = omega arith
+
+pub offset_bounds-b-i : goal.offset_bounds-b-i
+offset_bounds-b-i c = omega arith
+
+pub bounds-b-i : goal.bounds-b-i
+bounds-b-i c = omega arith
+
+pub overflow_add-i : goal.overflow_add-i
+overflow_add-i c = omega arith
+
+pub loop-i-smaller : goal.loop-i-smaller
+loop-i-smaller c = omega arith
+
+pub loop-i-preserved : goal.loop-i-preserved
+loop-i-preserved c = omega arith
