@@ -48,7 +48,7 @@ pub slice_bounds-points-end-2 : goal.slice_bounds-points-end-2
 slice_bounds-points-end-2 c =
     let s = c in
     let draw = c.draw-n in
-    let draw2 = c.draw-m in
+    let draw2 = c.draw-n in
     let k = still_long s.args.ps s.args.o s.args.q c.side_chosen.result s.requires.0 no_points _ no_starts _ draw.result draw.ensures points_long starts-long in
     points_fit s.args.ps s.args.o s.args.q c.side_chosen-2.result s.requires.0 draw.new.0 _ draw.new.1.0 _ draw2.result draw2.ensures k.0 k.1
 
@@ -56,7 +56,7 @@ pub slice_bounds-discs_on_a-end : goal.slice_bounds-discs_on_a-end
 slice_bounds-discs_on_a-end c =
     let s = c in
     let draw = c.draw-n in
-    let draw2 = c.draw-m in
+    let draw2 = c.draw-n in
     let k = still_long s.args.ps s.args.o s.args.q c.side_chosen.result s.requires.0 no_points _ no_starts _ draw.result draw.ensures points_long starts-long in
     points_lent s.args.ps s.args.o s.args.q c.side_chosen-2.result s.requires.0 draw.new.0 _ draw.new.1.0 _ draw2.result draw2.ensures k.0 k.1
 
@@ -64,7 +64,7 @@ pub overflow_add-starts-2 : goal.overflow_add-starts-2
 overflow_add-starts-2 c =
     let s = c in
     let draw = c.draw-n in
-    let draw2 = c.draw-m in
+    let draw2 = c.draw-n in
     let k = still_long s.args.ps s.args.o s.args.q c.side_chosen.result s.requires.0 no_points _ no_starts _ draw.result draw.ensures points_long starts-long in
     let a = all-few s.args.ps s.args.o s.args.q c.side_chosen-2.result s.requires.0 draw.new.0 _ draw.new.1.0 _ draw2.result draw2.ensures k.0 k.1 in
     omega arith
@@ -73,7 +73,7 @@ pub slice_bounds-starts-end-2 : goal.slice_bounds-starts-end-2
 slice_bounds-starts-end-2 c =
     let s = c in
     let draw = c.draw-n in
-    let draw2 = c.draw-m in
+    let draw2 = c.draw-n in
     let k = still_long s.args.ps s.args.o s.args.q c.side_chosen.result s.requires.0 no_points _ no_starts _ draw.result draw.ensures points_long starts-long in
     starts_fit s.args.ps s.args.o s.args.q c.side_chosen-2.result s.requires.0 draw.new.0 _ draw.new.1.0 _ draw2.result draw2.ensures k.0 k.1
 
@@ -81,7 +81,7 @@ pub slice_bounds-discs_on_a-end-2 : goal.slice_bounds-discs_on_a-end-2
 slice_bounds-discs_on_a-end-2 c =
     let s = c in
     let draw = c.draw-n in
-    let draw2 = c.draw-m in
+    let draw2 = c.draw-n in
     let k = still_long s.args.ps s.args.o s.args.q c.side_chosen.result s.requires.0 no_points _ no_starts _ draw.result draw.ensures points_long starts-long in
     starts-lent s.args.ps s.args.o s.args.q c.side_chosen-2.result s.requires.0 draw.new.0 _ draw.new.1.0 _ draw2.result draw2.ensures k.0 k.1
 
@@ -95,7 +95,7 @@ pub discs_on_discs-requires : goal.discs_on_discs-requires
 discs_on_discs-requires c =
     let s = c in
     let draw = c.draw-n in
-    let draw2 = c.draw-m in
+    let draw2 = c.draw-n in
     third-room s.requires.1 s.args.near.now s.args.named.now s.requires.2 s.requires.3 (lent draw.new.0 draw.new.1.0 draw.result) c.discs_on_b-i.ensures (lent draw2.new.0 draw2.new.1.0 draw2.result) c.discs_on_a-j.ensures
 
 pub returns : goal.returns
@@ -104,7 +104,7 @@ returns c =
     let side-chosen = c.side_chosen in
     let draw = c.draw-n in
     let side-chosen2 = c.side_chosen-2 in
-    let draw2 = c.draw-m in
+    let draw2 = c.draw-n in
     let k = still_long s.args.ps s.args.o s.args.q side-chosen.result s.requires.0 no_points _ no_starts _ draw.result draw.ensures points_long starts-long in
     let mb = drawn-side s.args.ps s.args.o s.args.q side-chosen.result s.requires.0 no_points _ no_starts _ draw.result draw.ensures points_long starts-long s.args.p.b true side-chosen.ensures in
     let ma = drawn-side s.args.ps s.args.o s.args.q side-chosen2.result s.requires.0 draw.new.0 _ draw.new.1.0 _ draw2.result draw2.ensures k.0 k.1 s.args.p.a true side-chosen2.ensures in

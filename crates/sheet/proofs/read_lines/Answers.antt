@@ -21,6 +21,18 @@ slice_bounds-line-count c =
     let p = line-piece c.loop-line.invariant c.find-e.ensures in
     omega arith
 
+pub slice_bounds-line-start : goal.slice_bounds-line-start
+slice_bounds-line-start c =
+    let pre = c.requires in
+    let p = line-piece c.loop-line.invariant c.find-e.ensures in
+    omega arith
+
+pub slice_bounds-line-end : goal.slice_bounds-line-end
+slice_bounds-line-end c =
+    let pre = c.requires in
+    let p = line-piece c.loop-line.invariant c.find-e.ensures in
+    omega arith
+
 pub returns-then-e-text : goal.returns-then-e-text
 returns-then-e-text c =
     let loop = c.loop-line in
@@ -111,7 +123,7 @@ loop-line-preserved-then-kind_of-eq76 c =
     let if4 = c.if-good-2 in
     let put = c.put-made in
     let kind-of = c.kind_of in
-    reads-edge loop.invariant find.ensures if1.false record_of.ensures (sym may-follow.ensures ∙ not-false _ if2.false) after.ensures if3.true count.ensures within.ensures if4.true put.ensures (sym kind-of.ensures ∙ c.if-kind_of-eq76.true) c.Edge-of.ensures
+    reads-edge loop.invariant find.ensures if1.false record_of.ensures (sym may-follow.ensures ∙ not-false _ if2.false) after.ensures if3.true count.ensures within.ensures if4.true put.ensures (sym kind-of.ensures ∙ c.if-kind_of-eq76.true) c.edge_of.ensures
 
 pub loop-line-smaller-else-kind_of-eq76 : goal.loop-line-smaller-else-kind_of-eq76
 loop-line-smaller-else-kind_of-eq76 c =

@@ -32,7 +32,7 @@ loop-i-preserved-then-best-n c =
     let h = c.loop-i-test.true in
     let f = placed_face a.faces.now a.names.now a.first in
     let g = part-read f a.n (λ x. x.face) no_face loop.i h c.face_at-f.ensures in
-    let meets = ap (λ x. any (meets_row x) (take a.m a.ends.now)) (sym g) ∙ sym c.Meets-any.ensures ∙ c.if-meets_any.true in
+    let meets = ap (λ x. any (meets_row x) (take a.m a.ends.now)) (sym g) ∙ sym c.meets_any.ensures ∙ c.if-meets_any.true in
     walked_takes loop.invariant (list_long f a.n) h meets (c.score-x.ensures ∙ ap (score_of a.k) g) c.total_order.ensures c.if-best-n.true
 
 pub loop-i-smaller-else-best-n : goal.loop-i-smaller-else-best-n
@@ -45,7 +45,7 @@ loop-i-preserved-else-best-n c =
     let h = c.loop-i-test.true in
     let f = placed_face a.faces.now a.names.now a.first in
     let g = part-read f a.n (λ x. x.face) no_face loop.i h c.face_at-f.ensures in
-    let meets = ap (λ x. any (meets_row x) (take a.m a.ends.now)) (sym g) ∙ sym c.Meets-any.ensures ∙ c.if-meets_any.true in
+    let meets = ap (λ x. any (meets_row x) (take a.m a.ends.now)) (sym g) ∙ sym c.meets_any.ensures ∙ c.if-meets_any.true in
     walked_stays loop.invariant (list_long f a.n) h meets (c.score-x.ensures ∙ ap (score_of a.k) g) c.total_order.ensures c.if-best-n.false
 
 pub loop-i-smaller : goal.loop-i-smaller
@@ -58,7 +58,7 @@ loop-i-preserved c =
     let h = c.loop-i-test.true in
     let f = placed_face a.faces.now a.names.now a.first in
     let g = part-read f a.n (λ x. x.face) no_face loop.i h c.face_at-f.ensures in
-    let meets = ap (λ x. any (meets_row x) (take a.m a.ends.now)) (sym g) ∙ sym c.Meets-any.ensures ∙ c.if-meets_any.false in
+    let meets = ap (λ x. any (meets_row x) (take a.m a.ends.now)) (sym g) ∙ sym c.meets_any.ensures ∙ c.if-meets_any.false in
     walked_skips loop.invariant (list_long f a.n) h meets
 
 pub overflow_add-first-then-best-n-2 : goal.overflow_add-first-then-best-n-2

@@ -15,6 +15,22 @@ slice_bounds-result-count c =
     let p = piece args.line.now 44 loop.at find.result loop.invariant.within find.ensures in
     omega arith
 
+pub slice_bounds-result-start : goal.slice_bounds-result-start
+slice_bounds-result-start c =
+    let args = c.args in
+    let loop = c.loop-i in
+    let find = c.find-e in
+    let p = piece args.line.now 44 loop.at find.result loop.invariant.within find.ensures in
+    omega arith
+
+pub slice_bounds-result-end : goal.slice_bounds-result-end
+slice_bounds-result-end c =
+    let args = c.args in
+    let loop = c.loop-i in
+    let find = c.find-e in
+    let p = piece args.line.now 44 loop.at find.result loop.invariant.within find.ensures in
+    omega arith
+
 pub returns-then-e-line : goal.returns-then-e-line
 returns-then-e-line c =
     let args = c.args in
@@ -49,6 +65,20 @@ loop-i-preserved c =
 
 pub slice_bounds-result-count-2 : goal.slice_bounds-result-count-2
 slice_bounds-result-count-2 c =
+    let args = c.args in
+    let loop = c.loop-i in
+    let p = piece args.line.now 44 loop.at c.find-e-2.result loop.invariant.within c.find-e-2.ensures in
+    omega arith
+
+pub slice_bounds-result-start-2 : goal.slice_bounds-result-start-2
+slice_bounds-result-start-2 c =
+    let args = c.args in
+    let loop = c.loop-i in
+    let p = piece args.line.now 44 loop.at c.find-e-2.result loop.invariant.within c.find-e-2.ensures in
+    omega arith
+
+pub slice_bounds-result-end-2 : goal.slice_bounds-result-end-2
+slice_bounds-result-end-2 c =
     let args = c.args in
     let loop = c.loop-i in
     let p = piece args.line.now 44 loop.at c.find-e-2.result loop.invariant.within c.find-e-2.ensures in

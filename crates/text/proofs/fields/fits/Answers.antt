@@ -17,6 +17,20 @@ slice_bounds-f-count c =
     let p = piece args.line.now 44 loop.at c.find-e.result loop.invariant.within c.find-e.ensures in
     omega arith
 
+pub slice_bounds-f-start : goal.slice_bounds-f-start
+slice_bounds-f-start c =
+    let args = c.args in
+    let loop = c.loop-j in
+    let p = piece args.line.now 44 loop.at c.find-e.result loop.invariant.within c.find-e.ensures in
+    omega arith
+
+pub slice_bounds-f-end : goal.slice_bounds-f-end
+slice_bounds-f-end c =
+    let args = c.args in
+    let loop = c.loop-j in
+    let p = piece args.line.now 44 loop.at c.find-e.result loop.invariant.within c.find-e.ensures in
+    omega arith
+
 pub bounds-form-j : goal.bounds-form-j
 bounds-form-j c = omega arith
 
