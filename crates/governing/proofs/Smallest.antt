@@ -7,7 +7,7 @@ use mathlib.Core.Bool.{Bool, true, false, ◌&&◌, cond}
 use mathlib.Core.List.{List, [], ◌∷◌, ◌++◌}
 use lib.Dec.{eqb, ltb}
 use lib.Ieee.{Float, nan, lt}
-use lib.ListN.{length, get_or, drop, drop_of_length_le}
+use lib.ListN.{length, get_or, drop, drop_of_length-le}
 use lib.Seq.{drop-cons}
 use borrow.Author.Tests.{eq-eqb, ne_eqb}
 use Rattle.laws.specs.Loops.{fold_in}
@@ -55,8 +55,8 @@ module _ {js : List ℕ} {gs : List Float} {n : ℕ} {b₀ b : Best} {i : ℕ} (
       no_gaps (j ∷ l) = refl
 
       go : (t : Bool) → cond t (length js) (length gs) ≤ n → least_gap b (drop i js) (drop i gs) ≡ b
-      go true k = let l : length js ≤ i = omega arith in ap (λ (m : List ℕ). least_gap b m (drop i gs)) (drop_of_length_le js l)
-      go false k = let l : length gs ≤ i = omega arith in ap (least_gap b (drop i js)) (drop_of_length_le gs l) ∙ no_gaps (drop i js)
+      go true k = let l : length js ≤ i = omega arith in ap (λ (m : List ℕ). least_gap b m (drop i gs)) (drop_of_length-le js l)
+      go false k = let l : length gs ≤ i = omega arith in ap (least_gap b (drop i js)) (drop_of_length-le gs l) ∙ no_gaps (drop i js)
 
 -- a gap behind the others is the last
 pub least_last : (b : Best) (js : List ℕ) (gs : List Float) (i : ℕ) (g : Float) → length js ≡ length gs

@@ -63,7 +63,7 @@ few-pairs p e =
       b = λ i h. ltb-false 4 (pair_at p i).b.count (neither _ (ltb 12 (side_length (pair_at p i).b)) (neither (side_over (pair_at p i).a) _ (each a.1 i h)).1).0;
     }
   where
-    each : Rattle.laws.specs.Loops.anyIn (λ k. pair_over (pair_at p k)) p.count 0 ≡ false → (i : ℕ) → i < p.count → pair_over (pair_at p i) ≡ false
+    each : Rattle.laws.specs.Loops.any_in (λ k. pair_over (pair_at p k)) p.count 0 ≡ false → (i : ℕ) → i < p.count → pair_over (pair_at p i) ≡ false
     each g i h = any_none (λ k. pair_over (pair_at p k)) p.count 0 i g (omega arith) (omega arith)
 
 sides-few : (p : Pairs) → pairs_over p ≡ false → (i : ℕ) → i < p.count → (side_over (pair_at p i).a ≡ false) × (side_over (pair_at p i).b ≡ false)

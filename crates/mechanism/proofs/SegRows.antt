@@ -6,7 +6,7 @@ use mathlib.Core.List.{List, [], ◌∷◌, map}
 use mathlib.Core.Bool.{true, cond}
 use lib.Dec.{leb}
 use lib.Ieee.{Float, eq, of_bits}
-use lib.ListN.{length, get_or, take, drop, length-map, drop_of_length_le, get_or-map}
+use lib.ListN.{length, get_or, take, drop, length-map, drop_of_length-le, get_or-map}
 use lib.Seq.{sets, length-sets, length-take-le, get_or-take}
 use borrow.Author.Tests.{leb-true, le-leb}
 use Rattle.laws.proofs.Choice.{both, and_yes, cond_yes}
@@ -57,7 +57,7 @@ module _ (o : Outlines) (n : ℕ) (long : n ≤ length o.seg) where
   rows-done i h =
       let l = length-take-le n o.seg long in
       let k : length (take n o.seg) ≤ i = omega arith in
-      ap (map row_of_seg) (drop_of_length_le (take n o.seg) k)
+      ap (map row_of_seg) (drop_of_length-le (take n o.seg) k)
 
   pub same-segs : (l : List (List Float)) → n ≤ length l → SameSegs n (outlines_in (sets l 0 (seg_rows o n))) o
   same-segs l h = record { seg = found }

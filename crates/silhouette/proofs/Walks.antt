@@ -7,7 +7,7 @@ use mathlib.Core.Path.{◌≡◌, refl, sym, ap, ap₂, subst, ◌∙◌}
 use mathlib.Core.Bool.{Bool, false, not}
 use mathlib.Core.List.{List, [], ◌∷◌, ◌++◌, map, reverse, map-append}
 use lib.Ieee.{Float}
-use lib.ListN.{length, take, drop, get_or, set, replicate, length-map, length-set, length-append, length-reverse, drop_of_length_le, get_or-map}
+use lib.ListN.{length, take, drop, get_or, set, replicate, length-map, length-set, length-append, length-reverse, drop_of_length-le, get_or-map}
 use lib.Seq.{sets, get_or-take, take-set-lt, take-take, length-take-le, drop-cons}
 use borrow.Author.Tests.{lt-ltb, le-ltb, le-leb, lt-leb}
 use Rattle.laws.specs.Fill.{filled}
@@ -67,7 +67,7 @@ drop-on segs n i l h =
 
 -- nothing is left
 pub up_done : {A : Type 0} (n i : ℕ) (l : List A) → length l ≡ n → n ≤ i → drop i l ≡ []
-up_done n i l e h = let k : length l ≤ i = omega arith in drop_of_length_le l k
+up_done n i l e h = let k : length l ≤ i = omega arith in drop_of_length-le l k
 
 -- ---- the chain
 -- one place changed

@@ -7,7 +7,7 @@ use native.Mathlib.Omega.{arith}
 use native.Mathlib.Numerals.{add-one}
 use native.Mathlib.Nat.{mul-add}
 use lib.Dec.{ltb, leb, eqb}
-use lib.ListN.{get_or, length, take, drop, drop_of_length_le}
+use lib.ListN.{get_or, length, take, drop, drop_of_length-le}
 use lib.Seq.{drop-cons}
 use lib.Pow.{pow_mono, pow-add}
 use lib.Ieee.{Float, of_bits, binary64}
@@ -157,7 +157,7 @@ used form j h = go (ltb j (length form)) refl
         ∙ sym (ne_eqb j (length form) (λ q. omega (arith, ltb-true j (length form) e)))
     go false e =
         let l : length form ≤ j = ltb-false j (length form) e in
-        ap (λ (x : List ℕ). fits_form x []) (drop_of_length_le form l) ∙ sym (eq-eqb j (length form) (omega arith))
+        ap (λ (x : List ℕ). fits_form x []) (drop_of_length-le form l) ∙ sym (eq-eqb j (length form) (omega arith))
 
 module _ {line form : List ℕ} {at j e : ℕ} (h : j < length form) (w : Fitting line form at j) (p : Piece line 44 at e) where
   turn : (rest : List (List ℕ)) → split 44 (drop at line) ≡ take (e - at) (drop at line) ∷ rest
@@ -186,7 +186,7 @@ module _ {line form : List ℕ} {at j e : ℕ} (h : j < length form) (w : Fittin
 pub fits-done : {line form : List ℕ} {at j : ℕ} → length form ≤ j → Fitting line form at j → false ≡ fits_form form (split 44 line)
 unfolding fits_form
 fits-done {line} {form} {at} {j} h w =
-    sym (ap (λ (x : List ℕ). fits_form x (split 44 (drop at line))) (drop_of_length_le form h) ∙ at_least_one (λ (l : List (List ℕ)). fits_form [] l ≡ false) (λ f fs. refl) 44 (drop at line))
+    sym (ap (λ (x : List ℕ). fits_form x (split 44 (drop at line))) (drop_of_length-le form h) ∙ at_least_one (λ (l : List (List ℕ)). fits_form [] l ≡ false) (λ f fs. refl) 44 (drop at line))
     ∙ w.same
 
 -- ---- a line of which i fields are passed, the next starting at `at`

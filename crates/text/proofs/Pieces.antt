@@ -6,7 +6,7 @@ use mathlib.Core.Path.{◌≡◌, refl, sym, ap, ap₂, subst, ◌∙◌}
 use mathlib.Core.Bool.{Bool, true, false, cond}
 use mathlib.Core.List.{List, [], ◌∷◌}
 use lib.Dec.{eqb}
-use lib.ListN.{length, get_or, take, drop, drop_of_length_le, length-drop}
+use lib.ListN.{length, get_or, take, drop, drop_of_length-le, length-drop}
 use lib.Seq.{drop-cons, drop-drop}
 use borrow.Author.Tests.{eq-eqb, ne_eqb}
 use Rattle.laws.proofs.Choice.{cond_yes, cond_no}
@@ -101,5 +101,5 @@ module _ (s : List ℕ) (c i : ℕ) where
   pub not_found : length s ≤ i → i ≡ piece_end c s i
   unfolding split
   not_found h =
-      let e : first (split c (drop i s)) ≡ 0 = ap (λ (t : List ℕ). first (split c t)) (drop_of_length_le s {i = i} h) in
+      let e : first (split c (drop i s)) ≡ 0 = ap (λ (t : List ℕ). first (split c t)) (drop_of_length-le s {i = i} h) in
       omega arith

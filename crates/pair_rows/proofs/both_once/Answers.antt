@@ -1,5 +1,6 @@
+use mathlib.Core.Bool.{not}
 use native.Mathlib.Omega.{arith}
-use mathlib.Core.Path.{refl, sym, ◌∙◌}
+use mathlib.Core.Path.{refl, sym, ◌∙◌, ap}
 use Rattle.laws.proofs.Choice.{not_yes, not_no}
 use Rattle.pair_rows.specs.PairRows.{driven_once}
 use Rattle.pair_rows.proofs.Order.{due-less, due-no, due-none}
@@ -15,7 +16,7 @@ pub returns-then-not-driven_once : goal.returns-then-not-driven_once
 returns-then-not-driven_once c =
     let s = c.args in
     let l = c.loop-left in
-    due-no (driven_once s.b) s.y l.body l.left l.invariant.1 (omega arith) l.invariant.0 (sym c.driven_once.ensures ∙ not_yes _ c.if-not-driven_once.true)
+    due-no (driven_once s.b) s.y l.body l.left l.invariant.1 (omega arith) l.invariant.0 (sym c.driven_once.ensures ∙ not_yes _ (ap not c.if-not-driven_once.true))
 
 pub loop-left-smaller : goal.loop-left-smaller
 loop-left-smaller c = omega arith
@@ -25,7 +26,7 @@ loop-left-preserved c =
     let s = c.args in
     let l = c.loop-left in
     let h = l.invariant.0 in
-    (omega (arith, h), due-less (driven_once s.b) s.y l.body l.left l.invariant.1 (omega arith) l.invariant.0 (sym c.driven_once.ensures ∙ not_no _ c.if-not-driven_once.false))
+    (omega (arith, h), due-less (driven_once s.b) s.y l.body l.left l.invariant.1 (omega arith) l.invariant.0 (sym c.driven_once.ensures ∙ not_no _ (ap not c.if-not-driven_once.false)))
 
 pub returns : goal.returns
 returns c = due-none (driven_once c.args.b) c.args.y c.loop-left.body c.loop-left.left c.loop-left.invariant.1 (omega arith)

@@ -1,3 +1,4 @@
+use mathlib.Core.Bool.{not}
 use native.Mathlib.Omega.{arith}
 use Prim.Native.Nat.{◌-◌}
 use mathlib.Core.Path.{sym, ap, subst, ◌∙◌}
@@ -34,7 +35,7 @@ returns-then-not-may_follow c =
     let if1 = c.if-e-text in
     let record_of = c.record_of-r in
     let may-follow = c.may_follow in
-    c.refuse.ensures ∙ out_of_order loop.invariant find.ensures if1.false record_of.ensures (sym may-follow.ensures ∙ not-true _ c.if-not-may_follow.true)
+    c.refuse.ensures ∙ out_of_order loop.invariant find.ensures if1.false record_of.ensures (sym may-follow.ensures ∙ not-true _ (ap not c.if-not-may_follow.true))
 
 pub overflow_add-n : goal.overflow_add-n
 overflow_add-n c =

@@ -32,7 +32,7 @@ returns-then-not-joins_next c =
     let n : s.args.o.count ≤ length s.args.o.seg = omega arith in
     let z = held-long s.args.o.count s.args.o.seg n in
     let l = c.loop-i in
-    let q : any_in (λ k. not (joins_next (outline_in s.args.o) k)) s.args.o.count 0 ≡ true = sym l.invariant.1 ∙ any-yes (λ k. not (joins_next (outline_in s.args.o) k)) s.args.o.count l.i c.loop-i-test.true (ap not (sym c.joins_next.ensures) ∙ c.if-not-joins_next.true) in
+    let q : any_in (λ k. not (joins_next (outline_in s.args.o) k)) s.args.o.count 0 ≡ true = sym l.invariant.1 ∙ any-yes (λ k. not (joins_next (outline_in s.args.o) k)) s.args.o.count l.i c.loop-i-test.true (ap not (sym c.joins_next.ensures) ∙ (ap not c.if-not-joins_next.true)) in
     sym (closed_is (outline_in s.args.o) z c.if-n-lt2.false q)
 
 pub loop-i-smaller : goal.loop-i-smaller
@@ -42,7 +42,7 @@ pub loop-i-preserved : goal.loop-i-preserved
 loop-i-preserved c =
     let s = c in
     let l = c.loop-i in
-    (omega arith, sym (any-no (λ k. not (joins_next (outline_in s.args.o) k)) s.args.o.count l.i c.loop-i-test.true (ap not (sym c.joins_next.ensures) ∙ c.if-not-joins_next.false)) ∙ l.invariant.1)
+    (omega arith, sym (any-no (λ k. not (joins_next (outline_in s.args.o) k)) s.args.o.count l.i c.loop-i-test.true (ap not (sym c.joins_next.ensures) ∙ (ap not c.if-not-joins_next.false))) ∙ l.invariant.1)
 
 pub returns : goal.returns
 returns c =

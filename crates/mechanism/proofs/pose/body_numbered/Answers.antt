@@ -5,4 +5,4 @@ pub returns-then-n-eq0 : goal.returns-then-n-eq0
 returns-then-n-eq0 c = simp c.if-n-eq0.true
 
 pub returns : goal.returns
-returns c = numbered _ _ c.if-n-eq0.false
+returns c = numbered c.args.b c.args.n c.if-n-eq0.false

@@ -1,6 +1,7 @@
+use mathlib.Core.Bool.{not}
 use native.Mathlib.Omega.{arith}
 use Prim.Native.Nat.{◌-◌}
-use mathlib.Core.Path.{sym, ◌∙◌}
+use mathlib.Core.Path.{sym, ◌∙◌, ap}
 use borrow.Author.Tests.{not-true, not-false}
 use Rattle.text.proofs.Pieces.{piece}
 use Rattle.text.proofs.FieldLaws.{fitting-starts, fits-no, fits_last, fits_more, fits-done}
@@ -26,7 +27,7 @@ returns-then-not-is_kind c =
     let find = c.find-e in
     let loop-test = c.loop-j-test in
     let p = piece args.line.now 44 loop.at find.result loop.invariant.within find.ensures in
-    fits-no loop-test.true loop.invariant p (sym c.is_kind.ensures ∙ not-true _ c.if-not-is_kind.true)
+    fits-no loop-test.true loop.invariant p (sym c.is_kind.ensures ∙ not-true _ (ap not c.if-not-is_kind.true))
 
 pub overflow_add-j : goal.overflow_add-j
 overflow_add-j c = omega arith
@@ -39,7 +40,7 @@ returns-then-e-line c =
     let loop-test = c.loop-j-test in
     let is-kind = c.is_kind in
     let p = piece args.line.now 44 loop.at find.result loop.invariant.within find.ensures in
-    fits_last loop-test.true loop.invariant p (sym is-kind.ensures ∙ not-false _ c.if-not-is_kind.false) c.if-e-line.true
+    fits_last loop-test.true loop.invariant p (sym is-kind.ensures ∙ not-false _ (ap not c.if-not-is_kind.false)) c.if-e-line.true
 
 pub overflow_add-at : goal.overflow_add-at
 overflow_add-at c =
@@ -60,7 +61,7 @@ loop-j-preserved c =
     let loop-test = c.loop-j-test in
     let is-kind = c.is_kind in
     let p = piece args.line.now 44 loop.at find.result loop.invariant.within find.ensures in
-    fits_more loop-test.true loop.invariant p (sym is-kind.ensures ∙ not-false _ c.if-not-is_kind.false) c.if-e-line.false
+    fits_more loop-test.true loop.invariant p (sym is-kind.ensures ∙ not-false _ (ap not c.if-not-is_kind.false)) c.if-e-line.false
 
 pub returns : goal.returns
 returns c =

@@ -1,6 +1,7 @@
+use mathlib.Core.Bool.{not}
 use native.Mathlib.Omega.{arith}
 use Prim.Native.Nat.{◌-◌}
-use mathlib.Core.Path.{sym, ◌∙◌}
+use mathlib.Core.Path.{sym, ◌∙◌, ap}
 use borrow.Author.Tests.{not-true, not-false}
 use Rattle.text.proofs.FieldLaws.{not_sixteen, hexes_start, not_hex, hexes_more, hexes_room, hexes_end}
 use Rattle.text.proofs.fields.real_of.Goals as goal
@@ -18,7 +19,7 @@ pub returns-then-not-is_hex : goal.returns-then-not-is_hex
 returns-then-not-is_hex c =
     let loop = c.loop-k in
     let loop-test = c.loop-k-test in
-    not_hex loop-test.true loop.invariant (sym c.is_hex.ensures ∙ not-true _ c.if-not-is_hex.true)
+    not_hex loop-test.true loop.invariant (sym c.is_hex.ensures ∙ not-true _ (ap not c.if-not-is_hex.true))
 
 pub overflow_mul-v : goal.overflow_mul-v
 overflow_mul-v c =
@@ -27,7 +28,7 @@ overflow_mul-v c =
     omega (arith, hexes_room loop-test.true loop.invariant)
 
 pub hex_value-requires : goal.hex_value-requires
-hex_value-requires c = sym c.is_hex.ensures ∙ not-false _ c.if-not-is_hex.false
+hex_value-requires c = sym c.is_hex.ensures ∙ not-false _ (ap not c.if-not-is_hex.false)
 
 pub overflow_add-v : goal.overflow_add-v
 overflow_add-v c =
@@ -46,7 +47,7 @@ loop-k-preserved c =
     let loop = c.loop-k in
     let loop-test = c.loop-k-test in
     let is-hex = c.is_hex in
-    hexes_more loop-test.true loop.invariant c.hex_value.result (sym is-hex.ensures ∙ not-false _ c.if-not-is_hex.false) c.hex_value.ensures.0 c.hex_value.ensures.1
+    hexes_more loop-test.true loop.invariant c.hex_value.result (sym is-hex.ensures ∙ not-false _ (ap not c.if-not-is_hex.false)) c.hex_value.ensures.0 c.hex_value.ensures.1
 
 pub returns : goal.returns
 returns c =
