@@ -44,7 +44,7 @@ loop-i-preserved c =
     let l = c.loop-i in
     let t = s.args.t in
     let e = sym (step-at t l.i c.loop-i-test.true) in
-    (omega arith, grown-as (sym (join_more (step_faces (F.run_of t)) l.i)) (sym (join_more (F.stepDiscs (F.run_of t) s.args.first) l.i)) (grown-then l.invariant.1 (grown-as (ap (F.facesAt t.part) e) (ap (λ p. F.discsAt t.part t.cut p (get_or t.steps l.i F.noStep)) c.previous_at-p.ensures ∙ ap (F.discsAt t.part t.cut (F.previousAt (F.run_of t) s.args.first l.i)) e) c.read_step-g.ensures)))
+    (omega arith, grown-as (sym (join_more (step_faces (F.run_of t)) l.i)) (sym (join_more (F.step_discs (F.run_of t) s.args.first) l.i)) (grown-then l.invariant.1 (grown-as (ap (F.faces_at t.part) e) (ap (λ p. F.discs_at t.part t.cut p (get_or t.steps l.i F.no_step)) c.previous_at-p.ensures ∙ ap (F.discs_at t.part t.cut (F.previous_at (F.run_of t) s.args.first l.i)) e) c.read_step-g.ensures)))
 
 pub returns : goal.returns
 unfolding range_faces
@@ -52,4 +52,4 @@ returns c =
     let s = c in
     let l = c.loop-i in
     let e : l.i ≡ s.args.t.count = omega arith in
-    grown-as (ap (λ k. join_in (step_faces (F.run_of s.args.t)) k 0) e) (ap (λ k. join_in (F.stepDiscs (F.run_of s.args.t) s.args.first) k 0) e) l.invariant.1
+    grown-as (ap (λ k. join_in (step_faces (F.run_of s.args.t)) k 0) e) (ap (λ k. join_in (F.step_discs (F.run_of s.args.t) s.args.first) k 0) e) l.invariant.1
