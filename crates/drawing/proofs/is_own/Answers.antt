@@ -25,21 +25,18 @@ overflow_add-k c = let h = c.ranges-2.ensures.0 in omega arith
 
 pub returns-then-r-i : goal.returns-then-r-i
 returns-then-r-i c =
-    let l = c.loop-k in
     let s = c in
-    sym (any-yes (λ r. eqb r.part s.args.i) (range_at s.args.u) _ l.k (omega arith) (eq-eqb _ _ c.if-r-i.true)) ∙ l.invariant
+    sym (any-yes (λ r. eqb r.part s.args.i) (range_at s.args.u) _ c.loop-k.k (omega arith) (eq-eqb _ _ c.if-r-i.true)) ∙ c.loop-k.invariant
 
 pub loop-k-smaller : goal.loop-k-smaller
 loop-k-smaller c = omega arith
 
 pub loop-k-preserved : goal.loop-k-preserved
 loop-k-preserved c =
-    let l = c.loop-k in
     let s = c in
-    sym (any-no (λ r. eqb r.part s.args.i) (range_at s.args.u) _ l.k (omega arith) (ne_eqb _ _ c.if-r-i.false)) ∙ l.invariant
+    sym (any-no (λ r. eqb r.part s.args.i) (range_at s.args.u) _ c.loop-k.k (omega arith) (ne_eqb _ _ c.if-r-i.false)) ∙ c.loop-k.invariant
 
 pub returns : goal.returns
 returns c =
-    let l = c.loop-k in
     let s = c in
-    sym (any-done (λ r. eqb r.part s.args.i) (range_at s.args.u) _ l.k (omega arith)) ∙ l.invariant
+    sym (any-done (λ r. eqb r.part s.args.i) (range_at s.args.u) _ c.loop-k.k (omega arith)) ∙ c.loop-k.invariant
