@@ -11,16 +11,16 @@ use Rattle.drawing.proofs.has_own.Goals as goal
 pub loop-k-init : goal.loop-k-init
 loop-k-init c =
     let s = c in
-    ranges_list (λ r. is_sampled (part_at s.args.ps r.part)) s.args.u _ (surface_long s.args.u _ s.well_formed.1.0) c.ranges-2.ensures
+    ranges_list (λ r. is_sampled (part_at s.args.ps r.part)) s.args.u _ (surface_long s.args.u _ s.well_formed.1.0) c.ranges-n.ensures
 
 pub offset_bounds-u-k : goal.offset_bounds-u-k
-offset_bounds-u-k c = let h = c.ranges-2.ensures.0 in omega arith
+offset_bounds-u-k c = let h = c.ranges-n.ensures.0 in omega arith
 
 pub bounds-u-k : goal.bounds-u-k
-bounds-u-k c = let h = c.ranges-2.ensures.0 in omega arith
+bounds-u-k c = let h = c.ranges-n.ensures.0 in omega arith
 
 pub overflow_add-k : goal.overflow_add-k
-overflow_add-k c = let h = c.ranges-2.ensures.0 in omega arith
+overflow_add-k c = let h = c.ranges-n.ensures.0 in omega arith
 
 pub offset_bounds-ps-i : goal.offset_bounds-ps-i
 offset_bounds-ps-i c = omega arith

@@ -27,4 +27,4 @@ returns-else-e-lt16 c =
     let k = l in
     let a = k.args in
     let accepted = sym k.call_checked-c.ensures ∙ l.in-Accepted.is in
-    posed_all a.m a.e accepted l.lent-q.ensures (omega arith) c.if-e-lt16.false c.pose.ensures
+    posed_all a.m a.e accepted l.lent-q.ensures (omega arith) c.if-e-lt16.false c.pose-in-Accepted.ensures
