@@ -1,5 +1,4 @@
 use native.Mathlib.Omega.{arith}
-use Prim.Native.Nat.{◌-◌}
 use mathlib.Core.Path.{refl, sym, ◌∙◌}
 use Rattle.pair_rows.proofs.Order.{once-end, once-hit, once-on}
 use Rattle.pair_rows.proofs.is_once.Goals as goal

@@ -1,4 +1,3 @@
-use Prim.Native.Nat.{◌-◌}
 use native.Mathlib.Omega.{arith}
 use Rattle.laws.proofs.Writing.{puts}
 use Rattle.sides.proofs.Known.{pairs-long}

@@ -1,5 +1,4 @@
 use native.Mathlib.Omega.{arith}
-use Prim.Native.Nat.{◌-◌}
 use Rattle.text.proofs.Pieces.{piece}
 use Rattle.text.proofs.FieldLaws.{passing_starts, passes-end, passes, passed}
 use Rattle.text.proofs.fields.field.Goals as goal
