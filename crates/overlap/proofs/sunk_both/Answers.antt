@@ -27,7 +27,7 @@ sunk-requires-2 c =
     (s.requires.0, s.requires.1, omega (arith, h, k))
 
 pub shape_of-points : goal.shape_of-points
-shape_of-points c = c.sunk.ensures.1 ∙ c.sunk.ensures.1
+shape_of-points c = c.sunk-2.ensures.1 ∙ c.sunk.ensures.1
 
 pub shape_of-mouths : goal.shape_of-mouths
 shape_of-mouths c = let s = c in mouths-long s.args.ps s.args.segs.now s.requires.0 s.requires.1 s.args.mouths.now s.requires.3 c.draw_mouths-n.ensures
@@ -37,5 +37,5 @@ returns c =
     let s = c in
     let drawn = c.draw_mouths-n.ensures in (
       sunk_with s.args.ps s.args.segs.now s.requires.0 s.requires.1 s.args.mouths.now s.requires.3 drawn s.args.q (owner_at s.args.wa) (chosen_material s.args.ps (outlines_in s.args.segs.now) s.args.q s.args.cb) c.sunk.ensures.0,
-      sunk_with s.args.ps s.args.segs.now s.requires.0 s.requires.1 s.args.mouths.now s.requires.3 drawn s.args.q (owner_at s.args.wb) (chosen_material s.args.ps (outlines_in s.args.segs.now) s.args.q s.args.ca) c.sunk.ensures.0,
+      sunk_with s.args.ps s.args.segs.now s.requires.0 s.requires.1 s.args.mouths.now s.requires.3 drawn s.args.q (owner_at s.args.wb) (chosen_material s.args.ps (outlines_in s.args.segs.now) s.args.q s.args.ca) c.sunk-2.ensures.0,
     )

@@ -24,7 +24,7 @@ returns-then-n-le6144 c =
     let e = c.all_drawn-n.ensures.0 in
     let t = c.if-n-le6144.true in
     let h : all_drawn s.args.parts.now ≤ 6144 = omega (arith, e, t) in
-    wrote_same (ap (λ (m : Material). flat (read_center m s.args.piece s.args.c) (faces_from s.args.faces.now 0 s.args.fnames.now s.args.a.face s.args.a.faces)) (drawn-or s.args.drawn.now s.args.parts.now s.args.q s.args.ca h)) c.deep_center_by.ensures
+    wrote_same (ap (λ (m : Material). flat (read_center m s.args.piece s.args.c) (faces_from s.args.faces.now 0 s.args.fnames.now s.args.a.face s.args.a.faces)) (drawn-or s.args.drawn.now s.args.parts.now s.args.q s.args.ca h)) c.deep_center_by-then-n-le6144.ensures
 
 pub returns : goal.returns
 returns c =

@@ -23,7 +23,7 @@ returns-then-n-le6144 c =
     let e = c.all_drawn-n.ensures.0 in
     let t = c.if-n-le6144.true in
     let h : all_drawn s.args.parts.now ≤ 6144 = omega (arith, e, t) in
-    wrote_same (ap₂ (λ (x y : Material). candidates_in x y (faces_from s.args.afaces.now 0 s.args.fnames.now s.args.a.face s.args.a.faces) (discs_from s.args.adiscs.now 0 s.args.dnames.now s.args.a.disc s.args.a.discs) (faces_from s.args.bfaces.now 0 s.args.fnames.now s.args.b.face s.args.b.faces) (discs_from s.args.bdiscs.now 0 s.args.dnames.now s.args.b.disc s.args.b.discs)) (drawn-or s.args.drawn.now s.args.parts.now s.args.q s.args.ca h) (drawn-or s.args.drawn.now s.args.parts.now s.args.q s.args.cb h)) c.deep_by.ensures
+    wrote_same (ap₂ (λ (x y : Material). candidates_in x y (faces_from s.args.afaces.now 0 s.args.fnames.now s.args.a.face s.args.a.faces) (discs_from s.args.adiscs.now 0 s.args.dnames.now s.args.a.disc s.args.a.discs) (faces_from s.args.bfaces.now 0 s.args.fnames.now s.args.b.face s.args.b.faces) (discs_from s.args.bdiscs.now 0 s.args.dnames.now s.args.b.disc s.args.b.discs)) (drawn-or s.args.drawn.now s.args.parts.now s.args.q s.args.ca h) (drawn-or s.args.drawn.now s.args.parts.now s.args.q s.args.cb h)) c.deep_by-then-n-le6144.ensures
 
 pub returns : goal.returns
 returns c =
