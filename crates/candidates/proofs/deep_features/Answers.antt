@@ -78,7 +78,7 @@ discs_on_a-j-requires c =
 pub discs_on_discs-requires : goal.discs_on_discs-requires
 discs_on_discs-requires c =
     let s = c in
-    third-room s.requires.1 s.args.near.now s.args.named.now s.requires.2 s.requires.3 (lent c.draw-n.new.points c.draw-n.new.starts c.draw-n.result) c.discs_on_b-i.ensures (lent c.draw-m.new.0 c.draw-m.new.1.0 c.draw-m.result) c.discs_on_a-j.ensures
+    third-room s.requires.1 s.args.near.now s.args.named.now s.requires.2 s.requires.3 (lent c.draw-n.new.points c.draw-n.new.starts c.draw-n.result) c.discs_on_b-i.ensures (lent c.draw-m.new.points c.draw-m.new.starts c.draw-m.result) c.discs_on_a-j.ensures
 
 pub returns : goal.returns
 returns c =
