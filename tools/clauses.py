@@ -1,6 +1,11 @@
 """What tools/contracts and tools/functions share: reading the public functions of a source text, and the facts of their clauses."""
 import re
 
+# Outcomes that are left free on purpose, 'crate::function outcome', or all of a crate, 'crate', each with the plain reason.
+ON_PURPOSE = {
+    'streams': 'it reads any reader and writes to any writer, and what these answer no equation can name',
+}
+
 HEAD = re.compile(r'^[ \t]*pub[ \t]+(?:const[ \t]+)?(?:unsafe[ \t]+)?(?:extern[ \t]+"C"[ \t]+)?fn[ \t]+(\w+)', re.M)
 IMPL = re.compile(r'^impl\b[^{;]*?(?:\bfor\s+)?(\w+)(?:<[^{;]*>)?\s*(?:where\b[^{;]*)?\{', re.M)
 RESULT = re.compile(r'\s*(?:->\s*([^{};]*?)\s*)?(?:\bwhere\b[^{};]*?)?(?=\b(?:ghost|requires|ensures)\b|\{)')
