@@ -73,13 +73,13 @@ module _ (ps : Parts) (o : Outlines) (q : Pose) (c : Chosen) (few : FewParts ps)
   all-few = L.all-few fit e
 
   pub points_fit : r.points ≤ length l'
-  points_fit = L.points-in fit e
+  points_fit = L.points_in fit e
 
   pub starts_fit : r.all + 1 ≤ length s'
   starts_fit = L.starts-in fit e
 
   pub points_lent : r.points ≡ length (take r.points l')
-  points_lent = L.points-lent fit e
+  points_lent = L.points_lent fit e
 
   pub starts-lent : r.all + 1 ≡ length (take (r.all + 1) s')
   starts-lent = L.starts-lent fit e

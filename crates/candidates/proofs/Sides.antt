@@ -8,7 +8,7 @@ use mathlib.Core.Bool.{Bool, true, false, ◌&&◌, ◌||◌}
 use mathlib.Core.List.{List, [], ◌∷◌, map}
 use lib.Dec.{leb}
 use lib.Ieee.{nan}
-use lib.ListN.{length, take, drop, get_or, drop_of_length_le}
+use lib.ListN.{length, take, drop, get_or, drop_of_length-le}
 use lib.Seq.{drop-cons, get_or-take, length-take-le}
 use mir.Val.{Val}
 use denote.Laws.{Is}
@@ -66,7 +66,7 @@ module _ {A : Type 0} (l : List A) (n i : ℕ) (long : n ≤ length l) where
   none_left : n ≤ i → drop i (take n l) ≡ []
   none_left h =
       let k : length (take n l) ≡ n = length-take-le n l long in
-      drop_of_length_le (take n l) (let g : length (take n l) ≤ i = omega arith in g)
+      drop_of_length-le (take n l) (let g : length (take n l) ≤ i = omega arith in g)
 
   pub map_next : {B : Type 0} (g : A → B) (d : A) → i < n → map g (drop i (take n l)) ≡ g (get_or l i d) ∷ map g (drop (i + 1) (take n l))
   map_next g d h = ap (map g) (next_of d h)

@@ -3,7 +3,7 @@ use Prim.Native.Nat.{ℕ, ◌+◌, ◌<◌, ◌≤◌}
 use native.Mathlib.Omega.{arith}
 use mathlib.Core.Path.{◌≡◌, sym, ap, ◌∙◌}
 use mathlib.Core.List.{List, map}
-use lib.ListN.{length, take, drop, get_or, drop_of_length_le}
+use lib.ListN.{length, take, drop, get_or, drop_of_length-le}
 use lib.Seq.{get_or-take, length-take-le, take_all}
 use lib.Ieee.{nan}
 use mir.Val.{Val}
@@ -52,4 +52,4 @@ module _ {A : Type 0} (step : A → Face → A) (l : List PlacedFace) (n i : ℕ
   held-end a h =
       let k : length (take n l) ≡ n = length-take-le n l long in
       let g : length (take n l) ≤ i = omega arith in
-      ap (λ (m : List PlacedFace). foldl step a (map face_of m)) (drop_of_length_le (take n l) g)
+      ap (λ (m : List PlacedFace). foldl step a (map face_of m)) (drop_of_length-le (take n l) g)

@@ -1,11 +1,10 @@
 -- How many records lent arrays hold, and whether a row stands among the entries. Assumes nothing.
-use Prim.Native.Nat.{ℕ, ◌+◌, ◌*◌, ◌-◌, ◌/◌, ◌<◌, ◌≤◌}
+use Prim.Native.Nat.{ℕ, ◌+◌, ◌*◌, ◌/◌, ◌<◌, ◌≤◌}
 use native.Mathlib.Omega.{arith}
 use native.Mathlib.Nat.{suc-mul, le-div_iff_mul-le}
 use mathlib.Core.Path.{◌≡◌, refl, sym, ap, ◌∙◌}
 use mathlib.Core.Bool.{Bool, true, false, ◌&&◌, cond}
 use lib.Dec.{leb, ltb, ltb→lt, lt→ltb, leb→le, le→leb}
-use lib.Ieee.{lt}
 use borrow.Author.Tests.{ltb-true, ltb-false, le-leb, lt-leb}
 use Rattle.laws.proofs.Choice.{and_yes, and_no, same_test}
 use Rattle.governing.specs.Governing.{lesser, records_in, row_there}

@@ -6,7 +6,7 @@ use native.Mathlib.Nat.{zero-mul, mul-pos, zero-lt-suc}
 use native.Mathlib.Omega.{arith}
 use lib.IntN.{ℤ, pos}
 use lib.Dec.{T, lt→ltb, ltb→lt}
-use lib.Ieee.{Float, nan, inf, fin, binary64, up, down, fits, le, lt, below, level}
+use lib.Ieee.{Float, nan, inf, fin, binary64, up, down, fits, le, below, level}
 use lib.Ieee.Fits.{up_pos, down_pos}
 use lib.Ieee.Positive.{positive, above_of_le}
 use borrow.Author.Tests.{le-ltb, lt-ltb, ne_eqb}

@@ -14,7 +14,6 @@ use Rattle.bodies.specs.Pose.{bodies_posed}
 use mathlib.Core.List.{List}
 use lib.Ieee.{Float}
 use lib.ListN.{length}
-use Rattle.mechanism.proofs.Worked as worked
 use Rattle.mechanism.specs.Description.{part_at, pair_at, segs_of, start_of_part, side_length}
 use Rattle.bodies.specs.Check.{is_accepted, and_then, refused_if, bodies_checked, bodies_lack, bodies_stand}
 use Rattle.mechanism.specs.Check.{side_over, pair_over, parts_over, pairs_over, limit_passed, parts_lack, outlines_lack, direction_missing, parts_checked, part_draws, with_drawn, with_range, side_body, sides_checked, pairs_checked, check_of, then_called, call_checked, FewParts, FewPairs, Few}

@@ -4,7 +4,7 @@ use native.Mathlib.Nat.{add-zero, sub-zero}
 use mathlib.Core.Path.{◌≡◌, sym, ap, ap₂, subst, ◌∙◌}
 use mathlib.Core.Bool.{Bool, true, false}
 use mathlib.Core.List.{List, ◌++◌, map, map-append}
-use lib.ListN.{length, get_or, drop, drop_of_length_le}
+use lib.ListN.{length, get_or, drop, drop_of_length-le}
 use lib.Ieee.{Float}
 use Rattle.laws.specs.Lists.{list_in, foldl, flat}
 use Rattle.laws.specs.Loops.{filter_in}
@@ -61,7 +61,7 @@ module _ (m : Material) (place : Point → Point) (f : Seg → List Point) (sil 
 
   pub segs_end : (d : Float) (k : ℕ) → length sil ≤ k → segs_from d k ≡ d
   unfolding foldl flat
-  segs_end d k h = ap (λ (l : List Seg). deepest_square m d (map place (flat f l))) (drop_of_length_le sil h)
+  segs_end d k h = ap (λ (l : List Seg). deepest_square m d (map place (flat f l))) (drop_of_length-le sil h)
 
 -- ---- over the parts that are sampled, those of n that are chosen
 module _ (m : Material) (samples : ℕ → List Point) (chosen : ℕ → Bool) (n : ℕ) where

@@ -7,7 +7,7 @@ use mathlib.Core.Path.{◌≡◌, refl, sym, ap, ap₂, subst, ◌∙◌}
 use mathlib.Core.Bool.{Bool, true, false, false≢true, not, ◌&&◌, ◌||◌, cond}
 use mathlib.Core.List.{List, [], ◌∷◌, ◌++◌, map, map-append}
 use lib.Dec.{eqb, ltb}
-use lib.ListN.{length, get_or, take, drop, replicate, length-replicate, length-map, drop_of_length_le}
+use lib.ListN.{length, get_or, take, drop, replicate, length-replicate, length-map, drop_of_length-le}
 use lib.Seq.{drop-cons, length-sets}
 use lib.Ieee.{Float, nan}
 use borrow.Author.Tests.{eqb-true, eqb-false}
@@ -91,11 +91,11 @@ module _ (l : List ℕ) (i : ℕ) where
 
   pub stands-none : (c : ℕ) → length l ≤ i → false ≡ any (eqb c) (drop i l)
   unfolding any
-  stands-none c h = sym (ap (any (eqb c)) (drop_of_length_le l h))
+  stands-none c h = sym (ap (any (eqb c)) (drop_of_length-le l h))
 
   pub once-end : length l ≤ i → true ≡ once (drop i l)
   unfolding once
-  once-end h = sym (ap once (drop_of_length_le l h))
+  once-end h = sym (ap once (drop_of_length-le l h))
 
   module _ (h : i < length l) where
     pub stands-hit : (c : ℕ) → eqb c (get_or l i 0) ≡ true → true ≡ any (eqb c) (drop i l)

@@ -109,10 +109,10 @@ module _ (m : Mechanism) (e : check_of m ≡ Accepted) {faces : List (List Float
   few-pairs = le-ltb 16 m.pairs.count (accepted-few m e).pairs.count
 
   on_a_lem : (i : ℕ) → i < m.pairs.count → (side_at sides (row_a i)).body ≤ m.bodies.count
-  on_a_lem i h = subst (λ (b : ℕ). b ≤ m.bodies.count) (sym (body_a_lem m e t i h ∙ sym (feature_a m.parts m.outlines (pair_at m.pairs i)))) (Fits.body-a m e i h)
+  on_a_lem i h = subst (λ (b : ℕ). b ≤ m.bodies.count) (sym (body_a_lem m e t i h ∙ sym (feature_a m.parts m.outlines (pair_at m.pairs i)))) (Fits.body_a_lem m e i h)
 
   on_b_lem : (i : ℕ) → i < m.pairs.count → (side_at sides (row_b i)).body ≤ m.bodies.count
-  on_b_lem i h = subst (λ (b : ℕ). b ≤ m.bodies.count) (sym (body_b m e t i h ∙ sym (feature_b m.parts m.outlines (pair_at m.pairs i)))) (Fits.body-b m e i h)
+  on_b_lem i h = subst (λ (b : ℕ). b ≤ m.bodies.count) (sym (body_b m e t i h ∙ sym (feature_b m.parts m.outlines (pair_at m.pairs i)))) (Fits.body_b m e i h)
 
   none-off : any_in (falls_off m.bodies.count sides) m.pairs.count 0 ≡ false
   none-off = any-all (falls_off m.bodies.count sides) m.pairs.count 0
@@ -164,7 +164,7 @@ module _ (m : Mechanism) (e : check_of m ≡ Accepted) {faces : List (List Float
       reading-of-pair i h =
           let made : Float → Float → MaybeBearing → PairReading = λ a b c. record { overlap = a; face_overlap = b; bearing = c } in
           ap₂ (λ (a b : Float). made a b (pair_reading_in faces fnames discs dnames sides centers choices drawn sampled parts q places values n i).bearing) (pair-overlap_read m e t i h q) (face-overlap_read m e t i h q)
-          ∙ ap (made (pair_reading m q places values n i).overlap (pair_reading m q places values n i).face_overlap) (bearing-read m e t i h q (row_at places values) (governing_of (Rows.pairIn places) (gap_in values) n i))
+          ∙ ap (made (pair_reading m q places values n i).overlap (pair_reading m q places values n i).face_overlap) (bearing-read m e t i h q (row_at places values) (governing_of (Rows.pair_in places) (gap_in values) n i))
 
       all-readings : pair_readings_in faces fnames discs dnames sides centers choices drawn sampled parts q places values n m.pairs.count ≡ pair_readings m q places values n
       all-readings = ap (filled 16 no_pair_reading) (list_in_lem (pair_reading_in faces fnames discs dnames sides centers choices drawn sampled parts q places values n) (pair_reading m q places values n) m.pairs.count 0 (λ i h. reading-of-pair i (omega (arith, h))))

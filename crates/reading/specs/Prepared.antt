@@ -32,7 +32,7 @@ module _ (faces : List (List Float)) (fnames : List (List ℕ)) (discs : List (L
   pair_reading_in q places values n i = record {
     overlap = pair_overlap_in drawn sampled parts sides centers choices q i;
     face_overlap = face_overlap_in faces sides q i;
-    bearing = governed_bearing (pair_in faces fnames discs dnames sides [] i) q (row_at places values) (governing_of (Rows.pairIn places) (gap_in values) n i);
+    bearing = governed_bearing (pair_in faces fnames discs dnames sides [] i) q (row_at places values) (governing_of (Rows.pair_in places) (gap_in values) n i);
   }
 
   abbrev pub pair_readings_in : Pose → List (List ℕ) → List (List Float) → ℕ → ℕ → List PairReading

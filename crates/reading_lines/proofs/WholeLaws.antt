@@ -114,7 +114,7 @@ no_values = replicate 256 (replicate 5 zero_f)
 abbrev pub no_columns : List Float
 no_columns = replicate 4096 zero_f
 
-reading-checked : (c : Checked) (m : Mechanism) (q : Pose) (rows : List Row) → (T.readIf c m q rows).checked ≡ c
+reading-checked : (c : Checked) (m : Mechanism) (q : Pose) (rows : List Row) → (T.read_if c m q rows).checked ≡ c
 reading-checked Accepted m q rows = refl
 reading-checked (Refused p) m q rows = refl
 
@@ -142,7 +142,7 @@ module _ (m : Mechanism) (q : Pose) (margin : Float) (places : List (List ℕ)) 
   says h = sym (four (rows_checked m q)) ∙ told h
 
   pub read_refused : (p : Problem) → r.checked ≡ Refused p → read_lines m q margin ≡ refusal p
-  read_refused p h = ap (λ (c : Checked). L.readIf c m q margin) (says h)
+  read_refused p h = ap (λ (c : Checked). L.read_if c m q margin) (says h)
 
   module _ (h : r.checked ≡ Accepted) {ps : List (List ℕ)} {vs : List (List Float)} {gs ss : List Float}
       (ep : ps ≡ if_accepted checked (sets places 0 (map place_row (rows_of m q margin))) places)
@@ -183,4 +183,4 @@ module _ (m : Mechanism) (q : Pose) (margin : Float) (places : List (List ℕ)) 
         (t.0, t.1, record { inside = omega (arith, n, all-fits m q margin k) })
 
     pub read_accepted : read_lines m q margin ≡ all_lines_in m.bodies.coords ps vs gs ss r
-    read_accepted = ap (λ (c : Checked). L.readIf c m q margin) (says h) ∙ sym there.2
+    read_accepted = ap (λ (c : Checked). L.read_if c m q margin) (says h) ∙ sym there.2

@@ -22,7 +22,6 @@ use Rattle.mechanism.specs.declared.part.SurfaceRef.{SurfaceRef}
 use Rattle.silhouette.specs.Silhouette.{seg_of, segs_in}
 use Rattle.silhouette.specs.declared.SilhouetteSegs.{SilhouetteSegs}
 use Rattle.silhouette.proofs.Walks.{held_at, held-long}
-use Rattle.sides.proofs.Worked as worked
 use Rattle.sides.specs.declared.MaybePoint.TheVariants.{NoPoint, SomePoint}
 use Rattle.corners.specs.declared.MaybeSeg.{MaybeSeg}
 use Rattle.corners.specs.declared.MaybeSeg.TheVariants.{NoSeg, SomeSeg}

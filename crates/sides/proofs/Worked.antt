@@ -13,7 +13,6 @@ use Rattle.geometry.specs.declared.Point.{Point}
 use Rattle.geometry.specs.declared.Seg.{Seg}
 use Rattle.geometry.specs.declared.Seg.TheVariants.{Line, Arc}
 use Rattle.mechanism.specs.declared.features.Piece.{Piece}
-use Rattle.mechanism.specs.declared.features.Piece.TheVariants as Piece
 use Rattle.mechanism.specs.declared.part.Role.TheVariants.{Solid, Cut}
 use Rattle.mechanism.specs.declared.part.Sweep.TheVariants.{Revolved}
 use Rattle.mechanism.specs.declared.part.SurfaceRef.{SurfaceRef}

@@ -10,14 +10,12 @@ use Rattle.geometry.specs.Geometry.{start_of, end_of}
 use Rattle.geometry.specs.declared.Point.{Point}
 use Rattle.geometry.specs.declared.Dir.{Dir}
 use Rattle.geometry.specs.declared.Seg.{Seg}
-use Rattle.geometry.specs.declared.Seg.TheVariants.{Arc}
 use Rattle.corners.specs.Corners.{face_of, run_back, arc_of, corner_of}
 use Rattle.mechanism.specs.Check.{same_point, side_drawn}
 use Rattle.mechanism.specs.Description.{part_at, range_at}
 use Rattle.mechanism.specs.declared.Parts.{Parts}
 use Rattle.mechanism.specs.declared.Outlines.{Outlines}
 use Rattle.mechanism.specs.declared.features.Piece.{Piece}
-use Rattle.mechanism.specs.declared.features.Piece.TheVariants as Piece
 use Rattle.mechanism.specs.declared.pair.Surface.{Surface}
 use Rattle.mechanism.specs.declared.part.Role.{Role}
 use Rattle.mechanism.specs.declared.part.Role.TheVariants.{Solid, Cut, Lining}

@@ -25,8 +25,8 @@ use Rattle.silhouette.proofs.Lengths.{silhouette_length_lem}
 use Rattle.silhouette.proofs.Walks.{about-some}
 use Rattle.silhouette.proofs.BySegment.{chain_at, turned-there, turned-back}
 
-same_point : {p q : Point} → p ≡ q → same_point p q ≡ true
-same_point e = and_yes _ (eq-eqb _ _ (ap (λ (r : Point). to_bits binary64 r.x) e)) ∙ eq-eqb _ _ (ap (λ (r : Point). to_bits binary64 r.y) e)
+same_point_lem : {p q : Point} → p ≡ q → same_point p q ≡ true
+same_point_lem e = and_yes _ (eq-eqb _ _ (ap (λ (r : Point). to_bits binary64 r.x) e)) ∙ eq-eqb _ _ (ap (λ (r : Point). to_bits binary64 r.y) e)
 
 -- ---- a point on the axis, in the chain and in its mirror
 module _ (x : Float) where
@@ -83,7 +83,7 @@ module _ (x : Float) where
         let n = sil-long in
         let next : (k + 1) % length sil ≡ k + 1 + 0 = mod-eq_of_lt (omega arith) ∙ omega arith in
         let last = chain_at l k (omega arith) (omega arith) ∙ cond_yes _ _ (eq-eqb (k + 2) (length l) (sym e)) in
-        same_point
+        same_point_lem
         (ap end_of (there k (omega arith) ∙ ap (turned_seg axis) last) ∙ far (eqb k 0) (get_or l k no_line) h
         ∙ ap start_of (sym (ap (λ (m : ℕ). get_or sil m no_line) next ∙ back 0 k (omega arith) ∙ ap (mirrored axis) last)))
 
@@ -92,7 +92,7 @@ module _ (x : Float) where
         let n = sil-long in
         let next : (k + 1 + k + 1) % length sil ≡ 0 = ap (λ (m : ℕ). m % length sil) (omega arith) ∙ mod_self (length sil) in
         let first = chain_at l 0 (omega arith) (omega arith) in
-        same_point
+        same_point_lem
         (ap end_of (back k 0 (omega arith) ∙ ap (mirrored axis) first) ∙ near (eqb 2 (length l)) (get_or l 0 no_line) h
         ∙ ap start_of (sym (ap (λ (m : ℕ). get_or sil m no_line) next ∙ there 0 (omega arith) ∙ ap (turned_seg axis) first)))
 

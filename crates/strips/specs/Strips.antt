@@ -8,7 +8,6 @@ use Rattle.geometry.specs.declared.signed.Disc.{Disc}
 use Rattle.geometry.specs.declared.signed.Face.{Face}
 use Rattle.mechanism.specs.Piece.{letter_of, part_of, seg_of, piece_in}
 use Rattle.mechanism.specs.declared.features.Piece.{Piece}
-use Rattle.mechanism.specs.declared.features.Piece.TheVariants as Piece
 use Rattle.sides.specs.Features.{side_from}
 use Rattle.sides.specs.declared.PlacedDisc.{PlacedDisc}
 use Rattle.sides.specs.declared.PlacedFace.{PlacedFace}

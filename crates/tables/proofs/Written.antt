@@ -6,7 +6,7 @@ use native.Mathlib.Numerals.{add-one}
 use mathlib.Core.Path.{◌≡◌, refl, sym, ap, ap₂, subst₂, ◌∙◌}
 use mathlib.Core.Bool.{Bool, cond}
 use mathlib.Core.List.{List, [], ◌∷◌, ◌++◌, map}
-use lib.ListN.{length, drop, get_or, set, length-map, drop_of_length_le}
+use lib.ListN.{length, drop, get_or, set, length-map, drop_of_length-le}
 use lib.Seq.{sets, take_all}
 use Rattle.laws.specs.Fill.{Filling}
 use Rattle.laws.specs.Lists.{list_in, flat}
@@ -51,7 +51,7 @@ module _ {A B : Type 0} {n : ℕ} {g : B → A} {l : List B} {out₀ : List A} {
       let f = w.far in
       let p = w.place in
       let k : length l ≤ i = omega (arith, a, h) in
-      (omega (arith, p, f, h), ends (ap (map g) (drop_of_length_le l k)) w.rows)
+      (omega (arith, p, f, h), ends (ap (map g) (drop_of_length-le l k)) w.rows)
 
 -- ---- an array that is filled to its end
 pub filled-whole : {A : Type 0} {n i : ℕ} {all l rest : List A} → n ≤ i → rest ≡ [] → Filling n all l i rest → l ≡ all

@@ -28,7 +28,7 @@ loop-i-preserved-then-best-m c =
     let s = c in
     let z = faces_long s.args.s _ s.well_formed.0 in
     let e = c.faces-m.ensures.0 in
-    let meets = sym c.Meets-any.ensures ∙ c.if-meets_any.true in
+    let meets = sym c.meets_any.ensures ∙ c.if-meets_any.true in
     walked_takes c.loop-i.invariant (omega arith)
     c.loop-i-test.true meets c.score-x.ensures c.total_order.ensures c.if-best-m.true
 
@@ -40,7 +40,7 @@ loop-i-preserved-else-best-m c =
     let s = c in
     let z = faces_long s.args.s _ s.well_formed.0 in
     let e = c.faces-m.ensures.0 in
-    let meets = sym c.Meets-any.ensures ∙ c.if-meets_any.true in
+    let meets = sym c.meets_any.ensures ∙ c.if-meets_any.true in
     walked_stays c.loop-i.invariant (omega arith)
     c.loop-i-test.true meets c.score-x.ensures c.total_order.ensures c.if-best-m.false
 
@@ -53,7 +53,7 @@ loop-i-preserved c =
     let z = faces_long s.args.s _ s.well_formed.0 in
     let e = c.faces-m.ensures.0 in
     walked_skips c.loop-i.invariant (omega arith) c.loop-i-test.true
-    (sym c.Meets-any.ensures ∙ c.if-meets_any.false)
+    (sym c.meets_any.ensures ∙ c.if-meets_any.false)
 
 pub offset_bounds-s-best : goal.offset_bounds-s-best
 offset_bounds-s-best c = let p = c.faces-m.ensures.0 in omega arith

@@ -21,12 +21,10 @@ overflow_add-i c = let p = c.faces-m.ensures.0 in omega arith
 pub returns-then-same_piece : goal.returns-then-same_piece
 returns-then-same_piece c =
     let s = c in
-    let loop = c.loop-i in
-    let m = c.faces-m in
     let z = faces_long s.args.s _ s.well_formed.0 in
-    let e = m.ensures.0 in
-    sym (named-yes s.args.piece s.args.s.face _ loop.i (omega arith) no_face c.loop-i-test.true
-    (sym c.same_piece.ensures ∙ c.if-same_piece.true)) ∙ loop.invariant
+    let e = c.faces-m.ensures.0 in
+    sym (named-yes s.args.piece s.args.s.face _ c.loop-i.i (omega arith) no_face c.loop-i-test.true
+    (sym c.same_piece.ensures ∙ c.if-same_piece.true)) ∙ c.loop-i.invariant
 
 pub loop-i-smaller : goal.loop-i-smaller
 loop-i-smaller c = omega arith
@@ -34,18 +32,14 @@ loop-i-smaller c = omega arith
 pub loop-i-preserved : goal.loop-i-preserved
 loop-i-preserved c =
     let s = c in
-    let loop = c.loop-i in
-    let m = c.faces-m in
     let z = faces_long s.args.s _ s.well_formed.0 in
-    let e = m.ensures.0 in
-    sym (named-no s.args.piece s.args.s.face _ loop.i (omega arith) no_face c.loop-i-test.true
-    (sym c.same_piece.ensures ∙ c.if-same_piece.false)) ∙ loop.invariant
+    let e = c.faces-m.ensures.0 in
+    sym (named-no s.args.piece s.args.s.face _ c.loop-i.i (omega arith) no_face c.loop-i-test.true
+    (sym c.same_piece.ensures ∙ c.if-same_piece.false)) ∙ c.loop-i.invariant
 
 pub returns : goal.returns
 returns c =
     let s = c in
-    let loop = c.loop-i in
-    let m = c.faces-m in
     let z = faces_long s.args.s _ s.well_formed.0 in
-    let e = m.ensures.0 in
-    sym (named_none s.args.piece s.args.s.face _ loop.i (omega arith) c.loop-i-test.false) ∙ loop.invariant
+    let e = c.faces-m.ensures.0 in
+    sym (named_none s.args.piece s.args.s.face _ c.loop-i.i (omega arith) c.loop-i-test.false) ∙ c.loop-i.invariant

@@ -21,12 +21,11 @@ overflow_add-i c = let p = c.discs-m.ensures.0 in omega arith
 pub returns-then-same_piece : goal.returns-then-same_piece
 returns-then-same_piece c =
     let s = c in
-    let loop = c.loop-i in
     let z = discs_long s.args.s _ s.well_formed.0 in
     let e = c.discs-m.ensures.0 in
     let same = sym c.same_piece.ensures ∙ c.if-same_piece.true in
-    sym (first-yes s.args.piece s.args.s.disc _ loop.i (omega arith) no_disc c.loop-i-test.true same
-    c.on_circle.ensures) ∙ loop.invariant
+    sym (first-yes s.args.piece s.args.s.disc _ c.loop-i.i (omega arith) no_disc c.loop-i-test.true same
+    c.on_circle.ensures) ∙ c.loop-i.invariant
 
 pub loop-i-smaller : goal.loop-i-smaller
 loop-i-smaller c = omega arith
@@ -34,16 +33,14 @@ loop-i-smaller c = omega arith
 pub loop-i-preserved : goal.loop-i-preserved
 loop-i-preserved c =
     let s = c in
-    let loop = c.loop-i in
     let z = discs_long s.args.s _ s.well_formed.0 in
     let e = c.discs-m.ensures.0 in
     let same = sym c.same_piece.ensures ∙ c.if-same_piece.false in
-    sym (first-no s.args.piece s.args.s.disc _ loop.i (omega arith) no_disc c.loop-i-test.true same) ∙ loop.invariant
+    sym (first-no s.args.piece s.args.s.disc _ c.loop-i.i (omega arith) no_disc c.loop-i-test.true same) ∙ c.loop-i.invariant
 
 pub returns : goal.returns
 returns c =
     let s = c in
-    let loop = c.loop-i in
     let z = discs_long s.args.s _ s.well_formed.0 in
     let e = c.discs-m.ensures.0 in
-    sym (first-none s.args.piece s.args.s.disc _ loop.i (omega arith) c.loop-i-test.false) ∙ loop.invariant
+    sym (first-none s.args.piece s.args.s.disc _ c.loop-i.i (omega arith) c.loop-i-test.false) ∙ c.loop-i.invariant

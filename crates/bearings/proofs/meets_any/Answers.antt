@@ -27,9 +27,8 @@ bounds-s-1 c = omega arith
 pub returns-then-at_end : goal.returns-then-at_end
 returns-then-at_end c =
     let s = c in
-    let loop = c.loop-i in
-    sym (left-yes s.args.ends.now s.args.n loop.i s.requires (meets_row s.args.f) [] c.loop-i-test.true
-    (sym c.at_end.ensures ∙ c.if-at_end.true)) ∙ loop.invariant
+    sym (left-yes s.args.ends.now s.args.n c.loop-i.i s.requires (meets_row s.args.f) [] c.loop-i-test.true
+    (sym c.at_end.ensures ∙ c.if-at_end.true)) ∙ c.loop-i.invariant
 
 pub loop-i-smaller : goal.loop-i-smaller
 loop-i-smaller c = omega arith
@@ -37,12 +36,10 @@ loop-i-smaller c = omega arith
 pub loop-i-preserved : goal.loop-i-preserved
 loop-i-preserved c =
     let s = c in
-    let loop = c.loop-i in
-    sym (left-no s.args.ends.now s.args.n loop.i s.requires (meets_row s.args.f) [] c.loop-i-test.true
-    (sym c.at_end.ensures ∙ c.if-at_end.false)) ∙ loop.invariant
+    sym (left-no s.args.ends.now s.args.n c.loop-i.i s.requires (meets_row s.args.f) [] c.loop-i-test.true
+    (sym c.at_end.ensures ∙ c.if-at_end.false)) ∙ c.loop-i.invariant
 
 pub returns : goal.returns
 returns c =
     let s = c in
-    let loop = c.loop-i in
-    sym (left-none s.args.ends.now s.args.n loop.i s.requires (meets_row s.args.f) c.loop-i-test.false) ∙ loop.invariant
+    sym (left-none s.args.ends.now s.args.n c.loop-i.i s.requires (meets_row s.args.f) c.loop-i-test.false) ∙ c.loop-i.invariant

@@ -24,10 +24,9 @@ disc_deep-requires c = c.requires.1
 pub returns-then-disc_deep : goal.returns-then-disc_deep
 returns-then-disc_deep c =
     let s = c in
-    let loop = c.loop-i in
     let z = discs_long s.args.s _ s.well_formed.0 in
     let n : s.args.s.discs ≤ length s.args.s.disc = let p = s.requires.0 in omega arith in
-    sym (left-yes s.args.s.disc s.args.s.discs loop.i n (λ d. disc_deep (faces_in s.args.t) d.disc) no_disc c.loop-i-test.true (sym c.disc_deep.ensures ∙ c.if-disc_deep.true)) ∙ loop.invariant
+    sym (left-yes s.args.s.disc s.args.s.discs c.loop-i.i n (λ d. disc_deep (faces_in s.args.t) d.disc) no_disc c.loop-i-test.true (sym c.disc_deep.ensures ∙ c.if-disc_deep.true)) ∙ c.loop-i.invariant
 
 pub loop-i-smaller : goal.loop-i-smaller
 loop-i-smaller c = omega arith
@@ -35,15 +34,13 @@ loop-i-smaller c = omega arith
 pub loop-i-preserved : goal.loop-i-preserved
 loop-i-preserved c =
     let s = c in
-    let loop = c.loop-i in
     let z = discs_long s.args.s _ s.well_formed.0 in
     let n : s.args.s.discs ≤ length s.args.s.disc = let p = s.requires.0 in omega arith in
-    sym (left-no s.args.s.disc s.args.s.discs loop.i n (λ d. disc_deep (faces_in s.args.t) d.disc) no_disc c.loop-i-test.true (sym c.disc_deep.ensures ∙ c.if-disc_deep.false)) ∙ loop.invariant
+    sym (left-no s.args.s.disc s.args.s.discs c.loop-i.i n (λ d. disc_deep (faces_in s.args.t) d.disc) no_disc c.loop-i-test.true (sym c.disc_deep.ensures ∙ c.if-disc_deep.false)) ∙ c.loop-i.invariant
 
 pub returns : goal.returns
 returns c =
     let s = c in
-    let loop = c.loop-i in
     let z = discs_long s.args.s _ s.well_formed.0 in
     let n : s.args.s.discs ≤ length s.args.s.disc = let p = s.requires.0 in omega arith in
-    sym (left-none s.args.s.disc s.args.s.discs loop.i n (λ d. disc_deep (faces_in s.args.t) d.disc) c.loop-i-test.false) ∙ loop.invariant
+    sym (left-none s.args.s.disc s.args.s.discs c.loop-i.i n (λ d. disc_deep (faces_in s.args.t) d.disc) c.loop-i-test.false) ∙ c.loop-i.invariant

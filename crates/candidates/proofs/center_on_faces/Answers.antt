@@ -24,11 +24,10 @@ loop-k-smaller c = omega arith
 pub loop-k-preserved : goal.loop-k-preserved
 loop-k-preserved c =
     let s = c in
-    let loop = c.loop-k in
     let z = faces_long s.args.a _ s.well_formed.1.1.1.1.0 in
     let p = s.requires.0 in
-    let room = wrote_one loop.invariant (center_short (material_of s.args.points.now s.args.starts.now s.args.n.solids s.args.n.all) s.args.piece s.args.c) c.loop-k-test.true (omega (arith, s.requires.1)) (omega (arith, s.requires.2)) in
-    wrote_more loop.invariant no_face (omega arith) c.loop-k-test.true (wrote_center (material_of s.args.points.now s.args.starts.now s.args.n.solids s.args.n.all) s.args.piece s.args.c (get_or s.args.a.face loop.k no_face) c.center_on-found.ensures (wrote_read room c.put_candidate-to.ensures))
+    let room = wrote_one c.loop-k.invariant (center_short (material_of s.args.points.now s.args.starts.now s.args.n.solids s.args.n.all) s.args.piece s.args.c) c.loop-k-test.true (omega (arith, s.requires.1)) (omega (arith, s.requires.2)) in
+    wrote_more c.loop-k.invariant no_face (omega arith) c.loop-k-test.true (wrote_center (material_of s.args.points.now s.args.starts.now s.args.n.solids s.args.n.all) s.args.piece s.args.c (get_or s.args.a.face c.loop-k.k no_face) c.center_on-found.ensures (wrote_read room c.put_candidate-to.ensures))
 
 pub shape_of-near : goal.shape_of-near
 shape_of-near c = wrote_near c.loop-k.invariant.done

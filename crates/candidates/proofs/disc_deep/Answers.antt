@@ -22,10 +22,9 @@ overflow_add-k c = omega arith
 pub returns-then-found_deep : goal.returns-then-found_deep
 returns-then-found_deep c =
     let s = c in
-    let loop = c.loop-k in
     let z = faces_long s.args.t _ s.well_formed.1.0 in
     let n : s.args.t.faces ≤ length s.args.t.face = let p = s.requires in omega arith in
-    sym (left-yes s.args.t.face s.args.t.faces loop.k n (λ f. found_deep (disc_on_face s.args.d f.face)) no_face c.loop-k-test.true (ap (λ m. found_deep m) (sym c.disc_on_face.ensures) ∙ sym c.found_deep.ensures ∙ c.if-found_deep.true)) ∙ loop.invariant
+    sym (left-yes s.args.t.face s.args.t.faces c.loop-k.k n (λ f. found_deep (disc_on_face s.args.d f.face)) no_face c.loop-k-test.true (ap (λ m. found_deep m) (sym c.disc_on_face.ensures) ∙ sym c.found_deep.ensures ∙ c.if-found_deep.true)) ∙ c.loop-k.invariant
 
 pub loop-k-smaller : goal.loop-k-smaller
 loop-k-smaller c = omega arith
@@ -33,15 +32,13 @@ loop-k-smaller c = omega arith
 pub loop-k-preserved : goal.loop-k-preserved
 loop-k-preserved c =
     let s = c in
-    let loop = c.loop-k in
     let z = faces_long s.args.t _ s.well_formed.1.0 in
     let n : s.args.t.faces ≤ length s.args.t.face = let p = s.requires in omega arith in
-    sym (left-no s.args.t.face s.args.t.faces loop.k n (λ f. found_deep (disc_on_face s.args.d f.face)) no_face c.loop-k-test.true (ap (λ m. found_deep m) (sym c.disc_on_face.ensures) ∙ sym c.found_deep.ensures ∙ c.if-found_deep.false)) ∙ loop.invariant
+    sym (left-no s.args.t.face s.args.t.faces c.loop-k.k n (λ f. found_deep (disc_on_face s.args.d f.face)) no_face c.loop-k-test.true (ap (λ m. found_deep m) (sym c.disc_on_face.ensures) ∙ sym c.found_deep.ensures ∙ c.if-found_deep.false)) ∙ c.loop-k.invariant
 
 pub returns : goal.returns
 returns c =
     let s = c in
-    let loop = c.loop-k in
     let z = faces_long s.args.t _ s.well_formed.1.0 in
     let n : s.args.t.faces ≤ length s.args.t.face = let p = s.requires in omega arith in
-    sym (left-none s.args.t.face s.args.t.faces loop.k n (λ f. found_deep (disc_on_face s.args.d f.face)) c.loop-k-test.false) ∙ loop.invariant
+    sym (left-none s.args.t.face s.args.t.faces c.loop-k.k n (λ f. found_deep (disc_on_face s.args.d f.face)) c.loop-k-test.false) ∙ c.loop-k.invariant

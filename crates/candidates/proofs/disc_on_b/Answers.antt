@@ -24,11 +24,10 @@ loop-k-smaller c = omega arith
 pub loop-k-preserved : goal.loop-k-preserved
 loop-k-preserved c =
     let s = c in
-    let loop = c.loop-k in
     let z = faces_long s.args.b _ s.well_formed.1.1.1.1.0 in
     let p = s.requires.0 in
-    let room = wrote_one loop.invariant (ab_short (material_of s.args.points.now s.args.starts.now s.args.n.solids s.args.n.all) s.args.d) c.loop-k-test.true s.requires.1 s.requires.2 in
-    wrote_more loop.invariant no_face (omega arith) c.loop-k-test.true (wrote_ab (material_of s.args.points.now s.args.starts.now s.args.n.solids s.args.n.all) s.args.d (get_or s.args.b.face loop.k no_face) c.on_face_b-found.ensures (wrote_read room c.put_candidate-to.ensures))
+    let room = wrote_one c.loop-k.invariant (ab_short (material_of s.args.points.now s.args.starts.now s.args.n.solids s.args.n.all) s.args.d) c.loop-k-test.true s.requires.1 s.requires.2 in
+    wrote_more c.loop-k.invariant no_face (omega arith) c.loop-k-test.true (wrote_ab (material_of s.args.points.now s.args.starts.now s.args.n.solids s.args.n.all) s.args.d (get_or s.args.b.face c.loop-k.k no_face) c.on_face_b-found.ensures (wrote_read room c.put_candidate-to.ensures))
 
 pub shape_of-near : goal.shape_of-near
 shape_of-near c = wrote_near c.loop-k.invariant.done

@@ -21,35 +21,28 @@ place_side-requires c =
 pub features_candidates-requires : goal.features_candidates-requires
 features_candidates-requires c =
     let s = c in
-    let place-side = c.place_side-a in
     let r = read_few s.args.ps s.args.o s.args.p s.requires.0 c.pair_features_at-f.ensures in
-    (r.0, few-placed r.1 r.2 place-side.ensures.0 place-side.ensures.1 c.place_side.ensures.0 c.place_side.ensures.1, s.requires.1, s.requires.2)
+    (r.0, few-placed r.1 r.2 c.place_side-a.ensures.0 c.place_side-a.ensures.1 c.place_side.ensures.0 c.place_side.ensures.1, s.requires.1, s.requires.2)
 
 pub center_candidates-requires : goal.center_candidates-requires
 center_candidates-requires c =
     let s = c in
-    let place-side = c.place_side-a in
     let r = read_few s.args.ps s.args.o s.args.p s.requires.0 c.pair_features_at-f.ensures in
     let f = r.1.faces in
-    let e = place-side.ensures.0 in
-    let n : place-side.result.faces ≤ 12 = omega arith in
+    let e = c.place_side-a.ensures.0 in
+    let n : c.place_side-a.result.faces ≤ 12 = omega arith in
     (r.0, n, s.requires.1, s.requires.2)
 
 pub returns-in-Features : goal.returns-in-Features
 returns-in-Features c =
     let s = c in
-    let pair-features-at = c.pair_features_at-f in
-    let place-side = c.place_side-a in
-    let place-side2 = c.place_side in
-    let a = place-side.ensures in
-    let b = place-side2.ensures in
-    wrote_same (features_read s.args.ps s.args.o s.args.q s.args.p pair-features-at.result s.requires.0 pair-features-at.ensures place-side.result a.2 place-side2.result c.in-Features.is a.3 b.2 b.3) c.features_candidates.ensures
+    let a = c.place_side-a.ensures in
+    let b = c.place_side.ensures in
+    wrote_same (features_read s.args.ps s.args.o s.args.q s.args.p c.pair_features_at-f.result s.requires.0 c.pair_features_at-f.ensures c.place_side-a.result a.2 c.place_side.result c.in-Features.is a.3 b.2 b.3) c.features_candidates.ensures
 
 pub returns-in-CenterBearing : goal.returns-in-CenterBearing
 returns-in-CenterBearing c =
     let s = c in
-    let pair-features-at = c.pair_features_at-f in
-    let place-side = c.place_side-a in
-    let f = pair-features-at.result in
-    let a = place-side.ensures in
-    wrote_same (center_read s.args.ps s.args.o s.args.q s.args.p f s.requires.0 pair-features-at.ensures place-side.result a.2 c.in-CenterBearing.is (c.world.ensures ∙ ap (λ x. world_of x f.b.center.point) c.placement_at-place.ensures)) c.center_candidates.ensures
+    let f = c.pair_features_at-f.result in
+    let a = c.place_side-a.ensures in
+    wrote_same (center_read s.args.ps s.args.o s.args.q s.args.p f s.requires.0 c.pair_features_at-f.ensures c.place_side-a.result a.2 c.in-CenterBearing.is (c.world.ensures ∙ ap (λ x. world_of x f.b.center.point) c.placement_at-place.ensures)) c.center_candidates.ensures

@@ -10,7 +10,5 @@ use Rattle.candidates.proofs.features_candidates.Goals as goal
 pub returns : goal.returns
 returns c =
     let s = c in
-    let any-deep = c.any_deep in
-    let any-deep2 = c.any_deep-2 in
-    let n = neither any-deep.result any-deep2.result c.if-any_deep.false in
-    wrote_same (placed_same no_material (side_material s.args.ps s.args.o s.args.q s.args.p.a true) no_material (side_material s.args.ps s.args.o s.args.q s.args.p.b true) s.args.a s.args.b (sym any-deep.ensures ∙ n.0) (sym any-deep2.ensures ∙ n.1)) c.plain_features.ensures
+    let n = neither c.any_deep.result c.any_deep-2.result c.if-any_deep.false in
+    wrote_same (placed_same no_material (side_material s.args.ps s.args.o s.args.q s.args.p.a true) no_material (side_material s.args.ps s.args.o s.args.q s.args.p.b true) s.args.a s.args.b (sym c.any_deep.ensures ∙ n.0) (sym c.any_deep-2.ensures ∙ n.1)) c.plain_features.ensures

@@ -34,22 +34,20 @@ loop-i-smaller c = omega arith
 pub loop-i-preserved : goal.loop-i-preserved
 loop-i-preserved c =
     let s = c in
-    let l = c.loop-i in
     let z = discs_long s.args.s _ s.well_formed.0 in
     let p = s.requires.1 in
     let n : s.args.s.discs ≤ length s.args.s.disc = omega arith in
-    let e = map_next s.args.s.disc s.args.s.discs l.i n (place_disc s.args.place) no_disc c.loop-i-test.true in
-    (omega arith, fill_put (omega arith) (e ∙ ap (λ x. record { piece = (get_or s.args.s.disc l.i no_disc).piece; disc = x } ∷ map (place_disc s.args.place) (drop (l.i + 1) (discs_in s.args.s))) (sym c.world_disc.ensures)) l.invariant.1)
+    let e = map_next s.args.s.disc s.args.s.discs c.loop-i.i n (place_disc s.args.place) no_disc c.loop-i-test.true in
+    (omega arith, fill_put (omega arith) (e ∙ ap (λ x. record { piece = (get_or s.args.s.disc c.loop-i.i no_disc).piece; disc = x } ∷ map (place_disc s.args.place) (drop (c.loop-i.i + 1) (discs_in s.args.s))) (sym c.world_disc.ensures)) c.loop-i.invariant.1)
 
 pub returns : goal.returns
 returns c =
     let s = c in
-    let l = c.loop-i in
     let z = discs_long s.args.s _ s.well_formed.0 in
     let p = s.requires.1 in
     let n : s.args.s.discs ≤ length s.args.s.disc = omega arith in
     let t = c.loop-i-test.false in
-    let f = l.invariant.0 in
-    let e : l.i ≡ s.args.s.discs = omega arith in
-    let h = ap (λ k. take k l.disc) (sym e) ∙ fill_end (map-left s.args.s.disc s.args.s.discs l.i n (place_disc s.args.place) t) l.invariant.1 in
+    let f = c.loop-i.invariant.0 in
+    let e : c.loop-i.i ≡ s.args.s.discs = omega arith in
+    let h = ap (λ k. take k c.loop-i.disc) (sym e) ∙ fill_end (map-left s.args.s.disc s.args.s.discs c.loop-i.i n (place_disc s.args.place) t) c.loop-i.invariant.1 in
     (refl, refl, refl, h)

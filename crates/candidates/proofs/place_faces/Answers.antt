@@ -34,22 +34,20 @@ loop-i-smaller c = omega arith
 pub loop-i-preserved : goal.loop-i-preserved
 loop-i-preserved c =
     let s = c in
-    let l = c.loop-i in
     let z = faces_long s.args.s _ s.well_formed.0 in
     let p = s.requires.0 in
     let n : s.args.s.faces ≤ length s.args.s.face = omega arith in
-    let e = map_next s.args.s.face s.args.s.faces l.i n (place_face s.args.place) no_face c.loop-i-test.true in
-    (omega arith, fill_put (omega arith) (e ∙ ap (λ x. record { piece = (get_or s.args.s.face l.i no_face).piece; face = x } ∷ map (place_face s.args.place) (drop (l.i + 1) (faces_in s.args.s))) (sym c.world_face.ensures)) l.invariant.1)
+    let e = map_next s.args.s.face s.args.s.faces c.loop-i.i n (place_face s.args.place) no_face c.loop-i-test.true in
+    (omega arith, fill_put (omega arith) (e ∙ ap (λ x. record { piece = (get_or s.args.s.face c.loop-i.i no_face).piece; face = x } ∷ map (place_face s.args.place) (drop (c.loop-i.i + 1) (faces_in s.args.s))) (sym c.world_face.ensures)) c.loop-i.invariant.1)
 
 pub returns : goal.returns
 returns c =
     let s = c in
-    let l = c.loop-i in
     let z = faces_long s.args.s _ s.well_formed.0 in
     let p = s.requires.0 in
     let n : s.args.s.faces ≤ length s.args.s.face = omega arith in
     let t = c.loop-i-test.false in
-    let f = l.invariant.0 in
-    let e : l.i ≡ s.args.s.faces = omega arith in
-    let h = ap (λ k. take k l.face) (sym e) ∙ fill_end (map-left s.args.s.face s.args.s.faces l.i n (place_face s.args.place) t) l.invariant.1 in
+    let f = c.loop-i.invariant.0 in
+    let e : c.loop-i.i ≡ s.args.s.faces = omega arith in
+    let h = ap (λ k. take k c.loop-i.face) (sym e) ∙ fill_end (map-left s.args.s.face s.args.s.faces c.loop-i.i n (place_face s.args.place) t) c.loop-i.invariant.1 in
     (refl, refl, h, refl)

@@ -5,9 +5,8 @@ use Rattle.candidates.proofs.place_side.Goals as goal
 
 pub returns : goal.returns
 returns c =
-    let placement-at = c.placement_at-place in
     let s = c.args.s in
     let d = c.place_discs.ensures in
     let f = c.place_faces.ensures in
-    let p = placement-at.ensures in
-    (d.0 ∙ f.0, d.1 ∙ f.1, d.2 ∙ f.2 ∙ ap (λ x. map (place_face x) (faces_in s)) p, d.3 ∙ ap (map (place_disc placement-at.result)) f.3 ∙ ap (λ x. map (place_disc x) (discs_in s)) p)
+    let p = c.placement_at-place.ensures in
+    (d.0 ∙ f.0, d.1 ∙ f.1, d.2 ∙ f.2 ∙ ap (λ x. map (place_face x) (faces_in s)) p, d.3 ∙ ap (map (place_disc c.placement_at-place.result)) f.3 ∙ ap (λ x. map (place_disc x) (discs_in s)) p)

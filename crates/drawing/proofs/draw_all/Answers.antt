@@ -23,9 +23,8 @@ overflow_add-i c = let h = c.requires.0.count in omega arith
 
 pub overflow_add-first : goal.overflow_add-first
 overflow_add-first c =
-    let l = c.loop-i in
-    let h = c.requires.0.all l.i c.loop-i-test.true in
-    let e = l.invariant.0 in
+    let h = c.requires.0.all c.loop-i.i c.loop-i-test.true in
+    let e = c.loop-i.invariant.0 in
     omega arith
 
 pub bounds-c-j : goal.bounds-c-j
@@ -33,30 +32,26 @@ bounds-c-j c = let h = c.requires.0.count in omega arith
 
 pub draw_polygon-at-requires : goal.draw_polygon-at-requires
 draw_polygon-at-requires c =
-    let l = c.loop-i in
     let s = c in
     let h = c.loop-i-test.true in
-    asks_polygon s.args.segs.now s.args.ps s.args.q s.requires.0 h l.invariant.0 l.at l.points s.requires.1 (draws_room _ _ _ _ _ l.invariant.1 h (eq-eqb _ _ c.if-c-j.true) s.requires.2)
+    asks_polygon s.args.segs.now s.args.ps s.args.q s.requires.0 h c.loop-i.invariant.0 c.loop-i.at c.loop-i.points s.requires.1 (draws_room _ _ _ _ _ c.loop-i.invariant.1 h (eq-eqb _ _ c.if-c-j.true) s.requires.2)
 
 pub overflow_add-k : goal.overflow_add-k
 overflow_add-k c =
-    let l = c.loop-i in
     let s = c in
-    let p = draws_place _ _ _ _ _ l.invariant.1 c.loop-i-test.true (eq-eqb _ _ c.if-c-j.true) s.requires.3 in
+    let p = draws_place _ _ _ _ _ c.loop-i.invariant.1 c.loop-i-test.true (eq-eqb _ _ c.if-c-j.true) s.requires.3 in
     omega arith
 
 pub offset_bounds-starts-k : goal.offset_bounds-starts-k
 offset_bounds-starts-k c =
-    let l = c.loop-i in
     let s = c in
-    let p = draws_place _ _ _ _ _ l.invariant.1 c.loop-i-test.true (eq-eqb _ _ c.if-c-j.true) s.requires.3 in
+    let p = draws_place _ _ _ _ _ c.loop-i.invariant.1 c.loop-i-test.true (eq-eqb _ _ c.if-c-j.true) s.requires.3 in
     omega arith
 
 pub bounds-starts-k : goal.bounds-starts-k
 bounds-starts-k c =
-    let l = c.loop-i in
     let s = c in
-    let p = draws_place _ _ _ _ _ l.invariant.1 c.loop-i-test.true (eq-eqb _ _ c.if-c-j.true) s.requires.3 in
+    let p = draws_place _ _ _ _ _ c.loop-i.invariant.1 c.loop-i-test.true (eq-eqb _ _ c.if-c-j.true) s.requires.3 in
     omega arith
 
 pub loop-i-smaller-then-c-j : goal.loop-i-smaller-then-c-j
@@ -64,12 +59,11 @@ loop-i-smaller-then-c-j c = omega arith
 
 pub loop-i-preserved-then-c-j : goal.loop-i-preserved-then-c-j
 loop-i-preserved-then-c-j c =
-    let l = c.loop-i in
     let s = c in
     let h = c.loop-i-test.true in
     let ps = s.args.ps in (
-      ap (λ (n : ℕ). n + segs_of ps l.i) l.invariant.0 ∙ sym (sum_more (segs_of ps) l.i),
-      draws_more _ _ _ _ _ l.invariant.1 h (eq-eqb _ _ c.if-c-j.true) (polygon_drawn s.args.segs.now ps s.args.q s.requires.0 h l.invariant.0 l.at l.points _ c.placement_at.ensures c.draw_polygon-at.ensures),
+      ap (λ (n : ℕ). n + segs_of ps c.loop-i.i) c.loop-i.invariant.0 ∙ sym (sum_more (segs_of ps) c.loop-i.i),
+      draws_more _ _ _ _ _ c.loop-i.invariant.1 h (eq-eqb _ _ c.if-c-j.true) (polygon_drawn s.args.segs.now ps s.args.q s.requires.0 h c.loop-i.invariant.0 c.loop-i.at c.loop-i.points _ c.placement_at.ensures c.draw_polygon-at.ensures),
     )
 
 pub loop-i-smaller : goal.loop-i-smaller
@@ -77,9 +71,8 @@ loop-i-smaller c = omega arith
 
 pub loop-i-preserved : goal.loop-i-preserved
 loop-i-preserved c =
-    let l = c.loop-i in
     let ps = c.args.ps in
-    (ap (λ (n : ℕ). n + segs_of ps l.i) l.invariant.0 ∙ sym (sum_more (segs_of ps) l.i), draws_skip _ _ _ _ _ l.invariant.1 c.loop-i-test.true (ne_eqb _ _ c.if-c-j.false))
+    (ap (λ (n : ℕ). n + segs_of ps c.loop-i.i) c.loop-i.invariant.0 ∙ sym (sum_more (segs_of ps) c.loop-i.i), draws_skip _ _ _ _ _ c.loop-i.invariant.1 c.loop-i-test.true (ne_eqb _ _ c.if-c-j.false))
 
 pub shape_of-points : goal.shape_of-points
 shape_of-points c = c.loop-i.invariant.1.drawn.long
@@ -89,9 +82,8 @@ shape_of-starts c = c.loop-i.invariant.1.marked.long
 
 pub returns : goal.returns
 returns c =
-    let l = c.loop-i in
     let h = c.loop-i-test.false in (
-      ap₂ (λ n m. record { at = n; count = m }) (draws_at _ _ _ _ _ l.invariant.1 h) (draws_count _ _ _ _ _ l.invariant.1 h),
-      draws_points _ _ _ _ _ l.invariant.1 h,
-      draws_starts _ _ _ _ _ l.invariant.1 h,
+      ap₂ (λ n m. record { at = n; count = m }) (draws_at _ _ _ _ _ c.loop-i.invariant.1 h) (draws_count _ _ _ _ _ c.loop-i.invariant.1 h),
+      draws_points _ _ _ _ _ c.loop-i.invariant.1 h,
+      draws_starts _ _ _ _ _ c.loop-i.invariant.1 h,
     )

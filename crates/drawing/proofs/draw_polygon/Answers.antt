@@ -9,10 +9,9 @@ loop-i-init c = places_start 8 drawn_points _ _ _ _
 
 pub draw_seg-to-requires : goal.draw_seg-to-requires
 draw_seg-to-requires c =
-    let l = c.loop-i in
     let e = c.silhouette_count-n.ensures.0 in
-    let r = l.invariant.room in
-    let w = l.invariant.rest.long in
+    let r = c.loop-i.invariant.room in
+    let w = c.loop-i.invariant.rest.long in
     omega arith
 
 pub overflow_add-i : goal.overflow_add-i
@@ -23,11 +22,10 @@ loop-i-smaller c = let e = c.silhouette_count-n.ensures.0 in omega arith
 
 pub loop-i-preserved : goal.loop-i-preserved
 loop-i-preserved c =
-    let l = c.loop-i in
     let s = c in
     let e = c.silhouette_count-n.ensures.0 in
     let k = rows-count s.args.segs.now s.args.first s.args.p s.requires.0 s.requires.1 in
-    places_more l.invariant (omega arith) c.silhouette_seg.ensures drawn-short c.draw_seg-to.ensures
+    places_more c.loop-i.invariant (omega arith) c.silhouette_seg.ensures drawn-short c.draw_seg-to.ensures
 
 pub shape_of-points : goal.shape_of-points
 shape_of-points c = c.loop-i.invariant.rest.long

@@ -39,9 +39,8 @@ pub loop-k-preserved : goal.loop-k-preserved
 loop-k-preserved c =
     let h = (drawn-held c.args.s c.drawn-d.ensures).0 in
     let g = (drawn-held c.args.s c.drawn-d.ensures).1 in
-    let l = c.loop-k in
     let d = c.drawn-d.result in
-    (omega arith, next_row _ l.k (rows-turn (world_of c.args.place) d.points d.count l.k _ _ (omega arith) (omega arith) c.world-p.ensures) l.invariant.1)
+    (omega arith, next_row _ c.loop-k.k (rows-turn (world_of c.args.place) d.points d.count c.loop-k.k _ _ (omega arith) (omega arith) c.world-p.ensures) c.loop-k.invariant.1)
 
 pub overflow_add-result : goal.overflow_add-result
 overflow_add-result c = let h = (drawn-held c.args.s c.drawn-d.ensures).0 in omega arith
@@ -51,5 +50,4 @@ shape_of-points c = c.loop-k.invariant.1.long
 
 pub returns : goal.returns
 returns c =
-    let l = c.loop-k in
-    drawn-end (world_of c.args.place) c.args.s c.drawn-d.ensures (omega arith) (omega arith) l.invariant.1
+    drawn-end (world_of c.args.place) c.args.s c.drawn-d.ensures (omega arith) (omega arith) c.loop-k.invariant.1

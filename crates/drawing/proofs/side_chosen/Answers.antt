@@ -25,12 +25,10 @@ loop-i-smaller c = omega arith
 
 pub loop-i-preserved : goal.loop-i-preserved
 loop-i-preserved c =
-    let l = c.loop-i in
     let s = c in
-    (omega arith, fill_put (omega arith) (what_turn s.args.ps s.args.u s.args.cuts l.i _ (omega arith) (what_at s.args.ps s.args.u s.args.cuts l.i c.what_is.ensures c.body_of_side-body.ensures c.has_own-own.ensures c.is_sampled.ensures c.is_own.ensures c.is_read_cut.ensures)) l.invariant.1)
+    (omega arith, fill_put (omega arith) (what_turn s.args.ps s.args.u s.args.cuts c.loop-i.i _ (omega arith) (what_at s.args.ps s.args.u s.args.cuts c.loop-i.i c.what_is.ensures c.body_of_side-body.ensures c.has_own-own.ensures c.is_sampled.ensures c.is_own.ensures c.is_read_cut.ensures)) c.loop-i.invariant.1)
 
 pub returns : goal.returns
 returns c =
-    let l = c.loop-i in
     let s = c in
-    what_done s.args.ps s.args.u s.args.cuts (omega arith) l.invariant.1
+    what_done s.args.ps s.args.u s.args.cuts (omega arith) c.loop-i.invariant.1

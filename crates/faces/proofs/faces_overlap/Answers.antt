@@ -34,38 +34,32 @@ loop-i-smaller-then-is_long c = omega arith
 
 pub loop-i-preserved-then-is_long : goal.loop-i-preserved-then-is_long
 loop-i-preserved-then-is_long c =
-    let l = c.loop-i in
-    let m = c.faces-m in
     let s = c.args in
     let z = side-long s.a _ c.well_formed.0 in
-    let k = m.ensures.0 in
-    let g = step-taken s.pa s.pb (faces_in s.b) l.deepest (face_of (get_or s.a.face l.i unread))
+    let k = c.faces-m.ensures.0 in
+    let g = step-taken s.pa s.pb (faces_in s.b) c.loop-i.deepest (face_of (get_or s.a.face c.loop-i.i unread))
     c.world-a0.ensures c.world-a1.ensures c.sub-e.ensures c.dot.ensures c.is_long.ensures
     c.if-is_long.true c.vector-v.ensures c.rotate-n.ensures c.past-deepest.ensures.0 in
-    (omega arith, c.past-deepest.ensures.1, held_on (step_of s.pa s.pb (faces_in s.b)) s.a.face m.result l.i (omega arith) c.loop-i-test.true g ∙ l.invariant.2)
+    (omega arith, c.past-deepest.ensures.1, held_on (step_of s.pa s.pb (faces_in s.b)) s.a.face c.faces-m.result c.loop-i.i (omega arith) c.loop-i-test.true g ∙ c.loop-i.invariant.2)
 
 pub loop-i-smaller : goal.loop-i-smaller
 loop-i-smaller c = omega arith
 
 pub loop-i-preserved : goal.loop-i-preserved
 loop-i-preserved c =
-    let l = c.loop-i in
-    let m = c.faces-m in
     let s = c.args in
     let z = side-long s.a _ c.well_formed.0 in
-    let k = m.ensures.0 in
-    let g = step_left s.pa s.pb (faces_in s.b) l.deepest (face_of (get_or s.a.face l.i unread))
+    let k = c.faces-m.ensures.0 in
+    let g = step_left s.pa s.pb (faces_in s.b) c.loop-i.deepest (face_of (get_or s.a.face c.loop-i.i unread))
     c.world-a0.ensures c.world-a1.ensures c.sub-e.ensures c.dot.ensures c.is_long.ensures c.if-is_long.false in
-    (omega arith, l.invariant.1, held_on (step_of s.pa s.pb (faces_in s.b)) s.a.face m.result l.i (omega arith) c.loop-i-test.true g ∙ l.invariant.2)
+    (omega arith, c.loop-i.invariant.1, held_on (step_of s.pa s.pb (faces_in s.b)) s.a.face c.faces-m.result c.loop-i.i (omega arith) c.loop-i-test.true g ∙ c.loop-i.invariant.2)
 
 pub returns : goal.returns
 unfolding faces_overlap
 returns c =
-    let l = c.loop-i in
-    let m = c.faces-m in
     let s = c.args in
     let z = side-long s.a _ c.well_formed.0 in
-    let k = m.ensures.0 in
-    sym (held-end (step_of s.pa s.pb (faces_in s.b)) s.a.face m.result l.i (omega arith) l.deepest c.loop-i-test.false)
-    ∙ l.invariant.2
-    ∙ ap (λ (x : List PlacedFace). foldl (step_of s.pa s.pb (faces_in s.b)) zero_f (map face_of x)) m.ensures.1
+    let k = c.faces-m.ensures.0 in
+    sym (held-end (step_of s.pa s.pb (faces_in s.b)) s.a.face c.faces-m.result c.loop-i.i (omega arith) c.loop-i.deepest c.loop-i-test.false)
+    ∙ c.loop-i.invariant.2
+    ∙ ap (λ (x : List PlacedFace). foldl (step_of s.pa s.pb (faces_in s.b)) zero_f (map face_of x)) c.faces-m.ensures.1

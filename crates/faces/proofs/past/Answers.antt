@@ -31,20 +31,16 @@ loop-i-smaller c = omega arith
 
 pub loop-i-preserved : goal.loop-i-preserved
 loop-i-preserved c =
-    let l = c.loop-i in
-    let m = c.faces-m in
     let s = c.args in
     let z = side-long s.b _ c.well_formed.1.1.1.0 in
-    let k = m.ensures.0 in
-    let e = past-taken s.a0 s.a1 s.n s.place l.d (face_of (get_or s.b.face l.i unread)) c.world-b0.ensures c.world-b1.ensures c.over-d.ensures.0 in
-    (omega arith, c.over-d.ensures.1, held_on (past_of s.a0 s.a1 s.n s.place) s.b.face m.result l.i (omega arith) c.loop-i-test.true e ∙ l.invariant.2)
+    let k = c.faces-m.ensures.0 in
+    let e = past-taken s.a0 s.a1 s.n s.place c.loop-i.d (face_of (get_or s.b.face c.loop-i.i unread)) c.world-b0.ensures c.world-b1.ensures c.over-d.ensures.0 in
+    (omega arith, c.over-d.ensures.1, held_on (past_of s.a0 s.a1 s.n s.place) s.b.face c.faces-m.result c.loop-i.i (omega arith) c.loop-i-test.true e ∙ c.loop-i.invariant.2)
 
 pub returns : goal.returns
 returns c =
-    let l = c.loop-i in
-    let m = c.faces-m in
     let s = c.args in
     let z = side-long s.b _ c.well_formed.1.1.1.0 in
-    let k = m.ensures.0 in
-    let e = sym (held-end (past_of s.a0 s.a1 s.n s.place) s.b.face m.result l.i (omega arith) l.d c.loop-i-test.false) ∙ l.invariant.2 in
-    (e ∙ ap (λ (x : List PlacedFace). foldl (past_of s.a0 s.a1 s.n s.place) s.deepest (map face_of x)) m.ensures.1, l.invariant.1)
+    let k = c.faces-m.ensures.0 in
+    let e = sym (held-end (past_of s.a0 s.a1 s.n s.place) s.b.face c.faces-m.result c.loop-i.i (omega arith) c.loop-i.d c.loop-i-test.false) ∙ c.loop-i.invariant.2 in
+    (e ∙ ap (λ (x : List PlacedFace). foldl (past_of s.a0 s.a1 s.n s.place) s.deepest (map face_of x)) c.faces-m.ensures.1, c.loop-i.invariant.1)

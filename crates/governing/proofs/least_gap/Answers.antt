@@ -1,4 +1,3 @@
-use Prim.Native.Nat.{◌-◌}
 use native.Mathlib.Omega.{arith}
 use Rattle.governing.proofs.Smallest.{compared-start, compared-more, compared-ends}
 use Rattle.governing.proofs.least_gap.Goals as goal

@@ -27,21 +27,18 @@ overflow_add-i c = omega arith
 
 pub returns-then-n-x : goal.returns-then-n-x
 returns-then-n-x c =
-    let l = c.loop-i in
     let s = c.args in
-    ap not (sym (any-yes (λ j. not (ltb j s.n)) (λ j. get_or s.l.now j 0) (length s.l.now) l.i (omega arith) (ap not (le-ltb _ _ c.if-n-x.true))) ∙ l.invariant)
+    ap not (sym (any-yes (λ j. not (ltb j s.n)) (λ j. get_or s.l.now j 0) (length s.l.now) c.loop-i.i (omega arith) (ap not (le-ltb _ _ c.if-n-x.true))) ∙ c.loop-i.invariant)
 
 pub loop-i-smaller : goal.loop-i-smaller
 loop-i-smaller c = omega arith
 
 pub loop-i-preserved : goal.loop-i-preserved
 loop-i-preserved c =
-    let l = c.loop-i in
     let s = c.args in
-    sym (any-no (λ j. not (ltb j s.n)) (λ j. get_or s.l.now j 0) (length s.l.now) l.i (omega arith) (ap not (lt-ltb _ _ c.if-n-x.false))) ∙ l.invariant
+    sym (any-no (λ j. not (ltb j s.n)) (λ j. get_or s.l.now j 0) (length s.l.now) c.loop-i.i (omega arith) (ap not (lt-ltb _ _ c.if-n-x.false))) ∙ c.loop-i.invariant
 
 pub returns : goal.returns
 returns c =
-    let l = c.loop-i in
     let s = c.args in
-    ap not (sym (any-done (λ j. not (ltb j s.n)) (λ j. get_or s.l.now j 0) (length s.l.now) l.i (omega arith)) ∙ l.invariant)
+    ap not (sym (any-done (λ j. not (ltb j s.n)) (λ j. get_or s.l.now j 0) (length s.l.now) c.loop-i.i (omega arith)) ∙ c.loop-i.invariant)

@@ -29,21 +29,18 @@ overflow_add-j c = let h = c.requires.count in omega arith
 
 pub returns-then-is-p : goal.returns-then-is-p
 returns-then-is-p c =
-    let l = c.loop-j in
     let s = c.args in
-    sym (any-yes (λ i. owner_at s.w i && eqb (part_at s.ps i).body s.body) s.ps.count l.j (omega arith) c.if-is-p.true) ∙ l.invariant
+    sym (any-yes (λ i. owner_at s.w i && eqb (part_at s.ps i).body s.body) s.ps.count c.loop-j.j (omega arith) c.if-is-p.true) ∙ c.loop-j.invariant
 
 pub loop-j-smaller : goal.loop-j-smaller
 loop-j-smaller c = omega arith
 
 pub loop-j-preserved : goal.loop-j-preserved
 loop-j-preserved c =
-    let l = c.loop-j in
     let s = c.args in
-    sym (any-no (λ i. owner_at s.w i && eqb (part_at s.ps i).body s.body) s.ps.count l.j (omega arith) c.if-is-p.false) ∙ l.invariant
+    sym (any-no (λ i. owner_at s.w i && eqb (part_at s.ps i).body s.body) s.ps.count c.loop-j.j (omega arith) c.if-is-p.false) ∙ c.loop-j.invariant
 
 pub returns : goal.returns
 returns c =
-    let l = c.loop-j in
     let s = c.args in
-    sym (any-done (λ i. owner_at s.w i && eqb (part_at s.ps i).body s.body) s.ps.count l.j (omega arith)) ∙ l.invariant
+    sym (any-done (λ i. owner_at s.w i && eqb (part_at s.ps i).body s.body) s.ps.count c.loop-j.j (omega arith)) ∙ c.loop-j.invariant

@@ -33,17 +33,15 @@ loop-i-smaller c = omega arith
 
 pub loop-i-preserved : goal.loop-i-preserved
 loop-i-preserved c =
-    let l = c.loop-i in
     let a = c in
     let s = a.args in
     let m = material_of s.points.now s.starts.now s.n.solids s.n.all in
-    let e : max_of l.d (square_depth m (row_point s.samples.now l.i)) ≡ c.deeper_square-d.result =
-    sym (c.deeper_square-d.ensures ∙ ap (max_of l.d) (within-square s.points.now s.starts.now s.n.solids s.n.all _ s.range a.requires)) in
-    (omega arith, fold_on (λ x p. max_of x (square_depth m p)) (row_point s.samples.now) (length s.samples.now) l.i (omega arith) e ∙ l.invariant.1)
+    let e : max_of c.loop-i.d (square_depth m (row_point s.samples.now c.loop-i.i)) ≡ c.deeper_square-d.result =
+    sym (c.deeper_square-d.ensures ∙ ap (max_of c.loop-i.d) (within-square s.points.now s.starts.now s.n.solids s.n.all _ s.range a.requires)) in
+    (omega arith, fold_on (λ x p. max_of x (square_depth m p)) (row_point s.samples.now) (length s.samples.now) c.loop-i.i (omega arith) e ∙ c.loop-i.invariant.1)
 
 pub returns : goal.returns
 returns c =
-    let l = c.loop-i in
     let s = c.args in
     let m = material_of s.points.now s.starts.now s.n.solids s.n.all in
-    sym (fold_done (λ x p. max_of x (square_depth m p)) (row_point s.samples.now) l.d (length s.samples.now) l.i (omega arith)) ∙ l.invariant.1 ∙ ap (deepest_square m s.from) (sym (points_of-rows s.samples.now))
+    sym (fold_done (λ x p. max_of x (square_depth m p)) (row_point s.samples.now) c.loop-i.d (length s.samples.now) c.loop-i.i (omega arith)) ∙ c.loop-i.invariant.1 ∙ ap (deepest_square m s.from) (sym (points_of-rows s.samples.now))

@@ -29,12 +29,10 @@ loop-i-smaller c = omega arith
 
 pub loop-i-preserved : goal.loop-i-preserved
 loop-i-preserved c =
-    let l = c.loop-i in
     let s = c.args in
-    fold_on (λ e j. max_of e (pair_overlap_at s.ps s.o s.q (pair_at s.pairs j))) s.pairs.count l.i (omega arith) (sym (c.max-d.ensures ∙ ap (max_of l.d) c.pair_overlap_at.ensures)) ∙ l.invariant
+    fold_on (λ e j. max_of e (pair_overlap_at s.ps s.o s.q (pair_at s.pairs j))) s.pairs.count c.loop-i.i (omega arith) (sym (c.max-d.ensures ∙ ap (max_of c.loop-i.d) c.pair_overlap_at.ensures)) ∙ c.loop-i.invariant
 
 pub returns : goal.returns
 returns c =
-    let l = c.loop-i in
     let s = c.args in
-    sym (fold_done (λ e j. max_of e (pair_overlap_at s.ps s.o s.q (pair_at s.pairs j))) l.d s.pairs.count l.i (omega arith)) ∙ l.invariant
+    sym (fold_done (λ e j. max_of e (pair_overlap_at s.ps s.o s.q (pair_at s.pairs j))) c.loop-i.d s.pairs.count c.loop-i.i (omega arith)) ∙ c.loop-i.invariant

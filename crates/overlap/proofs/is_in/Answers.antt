@@ -26,21 +26,18 @@ overflow_add-j c = omega arith
 
 pub returns-then-x-i : goal.returns-then-x-i
 returns-then-x-i c =
-    let l = c.loop-j in
     let s = c.args in
-    sym (any-yes (λ x. eqb x s.i) (λ n. get_or s.l.now n 0) (length s.l.now) l.j (omega arith) (eq-eqb _ _ c.if-x-i.true)) ∙ l.invariant
+    sym (any-yes (λ x. eqb x s.i) (λ n. get_or s.l.now n 0) (length s.l.now) c.loop-j.j (omega arith) (eq-eqb _ _ c.if-x-i.true)) ∙ c.loop-j.invariant
 
 pub loop-j-smaller : goal.loop-j-smaller
 loop-j-smaller c = omega arith
 
 pub loop-j-preserved : goal.loop-j-preserved
 loop-j-preserved c =
-    let l = c.loop-j in
     let s = c.args in
-    sym (any-no (λ x. eqb x s.i) (λ n. get_or s.l.now n 0) (length s.l.now) l.j (omega arith) (ne_eqb _ _ c.if-x-i.false)) ∙ l.invariant
+    sym (any-no (λ x. eqb x s.i) (λ n. get_or s.l.now n 0) (length s.l.now) c.loop-j.j (omega arith) (ne_eqb _ _ c.if-x-i.false)) ∙ c.loop-j.invariant
 
 pub returns : goal.returns
 returns c =
-    let l = c.loop-j in
     let s = c.args in
-    sym (any-done (λ x. eqb x s.i) (λ n. get_or s.l.now n 0) (length s.l.now) l.j (omega arith)) ∙ l.invariant
+    sym (any-done (λ x. eqb x s.i) (λ n. get_or s.l.now n 0) (length s.l.now) c.loop-j.j (omega arith)) ∙ c.loop-j.invariant

@@ -29,9 +29,8 @@ loop-i-smaller c = omega arith
 
 pub loop-i-preserved : goal.loop-i-preserved
 loop-i-preserved c =
-    let l = c.loop-i in
     let s = c.args in
-    (omega arith, fill_put (omega arith) (flag_turn (λ j. is_in s.l.now j && is_sampled (part_at s.ps j)) l.i _ (omega arith) (ap₂ ◌&&◌ c.is_in.ensures c.is_sampled.ensures)) l.invariant.1)
+    (omega arith, fill_put (omega arith) (flag_turn (λ j. is_in s.l.now j && is_sampled (part_at s.ps j)) c.loop-i.i _ (omega arith) (ap₂ ◌&&◌ c.is_in.ensures c.is_sampled.ensures)) c.loop-i.invariant.1)
 
 pub returns : goal.returns
 returns c =

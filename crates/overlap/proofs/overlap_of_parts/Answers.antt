@@ -24,7 +24,7 @@ pub returns : goal.returns
 returns c =
     let s = c in
     let k = c.segs_counted.ensures in
-    let o = outlines_in c.put_segs.new.0 in
+    let o = outlines_in c.put_segs.new.out in
     let two = c.sunk_both-s.ensures in
     parts-put s.args.ps s.args.o (replicate 384 (replicate 8 zero_f)) (outlines-long s.args.o _ s.well_formed.1.0) k k.1 c.put_segs.ensures s.args.q s.args.a.now s.args.b.now
     (parts-both s.args.ps o s.args.q s.args.a.now s.args.b.now c.max.ensures

@@ -32,9 +32,8 @@ loop-i-smaller c = omega arith
 
 pub loop-i-preserved : goal.loop-i-preserved
 loop-i-preserved c =
-    let l = c.loop-i in
     let s = c.args in
-    (omega arith, fill_put (omega arith) (flag_turn (choice_of s.ps s.w) l.i _ (omega arith) (c.what_is.ensures ∙ ap (what_is (owner_at s.w l.i)) (ap₂ ◌&&◌ c.is_read_cut.ensures c.any_on.ensures))) l.invariant.1)
+    (omega arith, fill_put (omega arith) (flag_turn (choice_of s.ps s.w) c.loop-i.i _ (omega arith) (c.what_is.ensures ∙ ap (what_is (owner_at s.w c.loop-i.i)) (ap₂ ◌&&◌ c.is_read_cut.ensures c.any_on.ensures))) c.loop-i.invariant.1)
 
 pub returns : goal.returns
 returns c =

@@ -30,9 +30,8 @@ overflow_add-i c = let h = c.requires.0.count in omega arith
 
 pub overflow_add-first : goal.overflow_add-first
 overflow_add-first c =
-    let l = c.loop-i in
-    let h = c.requires.0.all l.i c.loop-i-test.true in
-    let e = l.invariant.0 in
+    let h = c.requires.0.all c.loop-i.i c.loop-i-test.true in
+    let e = c.loop-i.invariant.0 in
     omega arith
 
 pub bounds-w-j : goal.bounds-w-j
@@ -40,9 +39,8 @@ bounds-w-j c = let h = c.requires.0.count in omega arith
 
 pub sunk_part-d-requires : goal.sunk_part-d-requires
 sunk_part-d-requires c =
-    let l = c.loop-i in
     let a = c in
-    let asks = part-asks a.args.ps a.args.segs.now a.requires.0 a.requires.1 l.i c.loop-i-test.true l.invariant.0 in
+    let asks = part-asks a.args.ps a.args.segs.now a.requires.0 a.requires.1 c.loop-i.i c.loop-i-test.true c.loop-i.invariant.0 in
     (asks.0, asks.1, c.y_range-range.ensures)
 
 pub loop-i-smaller-then-w-j : goal.loop-i-smaller-then-w-j
@@ -50,16 +48,15 @@ loop-i-smaller-then-w-j c = omega arith
 
 pub loop-i-preserved-then-w-j : goal.loop-i-preserved-then-w-j
 loop-i-preserved-then-w-j c =
-    let l = c.loop-i in
     let a = c in
     let s = a.args in
     let h = c.loop-i-test.true in
     let m = material_of s.points.now s.starts.now s.n.solids s.n.all in
     let f = (part_samples s.ps (outlines_in s.segs.now) s.q (mouths_in s.mouths.now)) in
-    let taken = part-taken s.ps s.segs.now a.requires.0 a.requires.1 l.i h l.invariant.0 s.q (mouths_in s.mouths.now) m l.d c.placement_at-place.ensures c.sunk_part-d.ensures in (
-      ap (λ (k : ℕ). k + segs_of s.ps l.i) l.invariant.0 ∙ sym (sum_more (segs_of s.ps) l.i),
-      sunk_plain m f (owner_at s.w) s.ps.count l.d l.i l.invariant.1 taken,
-      sunk_more m f (owner_at s.w) s.ps.count l.d l.i l.invariant.1 taken h c.if-w-j.true ∙ l.invariant.2,
+    let taken = part-taken s.ps s.segs.now a.requires.0 a.requires.1 c.loop-i.i h c.loop-i.invariant.0 s.q (mouths_in s.mouths.now) m c.loop-i.d c.placement_at-place.ensures c.sunk_part-d.ensures in (
+      ap (λ (k : ℕ). k + segs_of s.ps c.loop-i.i) c.loop-i.invariant.0 ∙ sym (sum_more (segs_of s.ps) c.loop-i.i),
+      sunk_plain m f (owner_at s.w) s.ps.count c.loop-i.d c.loop-i.i c.loop-i.invariant.1 taken,
+      sunk_more m f (owner_at s.w) s.ps.count c.loop-i.d c.loop-i.i c.loop-i.invariant.1 taken h c.if-w-j.true ∙ c.loop-i.invariant.2,
     )
 
 pub loop-i-smaller : goal.loop-i-smaller
@@ -67,17 +64,15 @@ loop-i-smaller c = omega arith
 
 pub loop-i-preserved : goal.loop-i-preserved
 loop-i-preserved c =
-    let l = c.loop-i in
     let s = c.args in
     let m = material_of s.points.now s.starts.now s.n.solids s.n.all in (
-      ap (λ (k : ℕ). k + segs_of s.ps l.i) l.invariant.0 ∙ sym (sum_more (segs_of s.ps) l.i),
-      l.invariant.1,
-      sunk_skip m (part_samples s.ps (outlines_in s.segs.now) s.q (mouths_in s.mouths.now)) (owner_at s.w) s.ps.count l.d l.i c.loop-i-test.true c.if-w-j.false ∙ l.invariant.2,
+      ap (λ (k : ℕ). k + segs_of s.ps c.loop-i.i) c.loop-i.invariant.0 ∙ sym (sum_more (segs_of s.ps) c.loop-i.i),
+      c.loop-i.invariant.1,
+      sunk_skip m (part_samples s.ps (outlines_in s.segs.now) s.q (mouths_in s.mouths.now)) (owner_at s.w) s.ps.count c.loop-i.d c.loop-i.i c.loop-i-test.true c.if-w-j.false ∙ c.loop-i.invariant.2,
     )
 
 pub returns : goal.returns
 returns c =
-    let l = c.loop-i in
     let s = c.args in
     let m = material_of s.points.now s.starts.now s.n.solids s.n.all in
-    c.root.ensures.value ∙ sym (sunk_end m (part_samples s.ps (outlines_in s.segs.now) s.q (mouths_in s.mouths.now)) (owner_at s.w) s.ps.count l.d l.i c.loop-i-test.false) ∙ l.invariant.2
+    c.root.ensures.value ∙ sym (sunk_end m (part_samples s.ps (outlines_in s.segs.now) s.q (mouths_in s.mouths.now)) (owner_at s.w) s.ps.count c.loop-i.d c.loop-i.i c.loop-i-test.false) ∙ c.loop-i.invariant.2

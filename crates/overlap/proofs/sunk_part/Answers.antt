@@ -42,7 +42,6 @@ loop-k-smaller c = let e = c.silhouette_count-count.ensures.0 in omega arith
 
 pub loop-k-preserved : goal.loop-k-preserved
 loop-k-preserved c =
-    let l = c.loop-k in
     let a = c in
     let s = a.args in
     let e = c.silhouette_count-count.ensures.0 in
@@ -54,20 +53,19 @@ loop-k-preserved c =
     let n = length-map (samples_of (mouths_in s.mouths.now) seg) (world_of s.place) in
     let w = made.2 in
     let z = made.0 in
-    let x = points_lent xs l.samples (made.0 ∙ sym n) made.1 (let y = l.invariant.1 in omega (arith, n, w, y, z)) in
+    let x = points_lent xs c.loop-k.samples (made.0 ∙ sym n) made.1 (let y = c.loop-k.invariant.1 in omega (arith, n, w, y, z)) in
     let m = material_of s.points.now s.starts.now s.n.solids s.n.all in (
       omega arith,
-      written-long l.samples (map row_of xs) made.1 l.invariant.1,
-      segs_more m (world_of s.place) (samples_of (mouths_in s.mouths.now)) _ l.d l.k (omega (arith, e, t, k)) c.silhouette_seg-s.ensures (c.deepest_in-d.ensures ∙ ap (deepest_square m l.d) x) ∙ l.invariant.2,
+      written-long c.loop-k.samples (map row_of xs) made.1 c.loop-k.invariant.1,
+      segs_more m (world_of s.place) (samples_of (mouths_in s.mouths.now)) _ c.loop-k.d c.loop-k.k (omega (arith, e, t, k)) c.silhouette_seg-s.ensures (c.deepest_in-d.ensures ∙ ap (deepest_square m c.loop-k.d) x) ∙ c.loop-k.invariant.2,
     )
 
 pub returns : goal.returns
 returns c =
-    let l = c.loop-k in
     let a = c in
     let s = a.args in
     let e = c.silhouette_count-count.ensures.0 in
     let t = c.loop-k-test.false in
     let k = rows-count s.segs.now s.first s.p a.requires.0 a.requires.1 in
     let m = material_of s.points.now s.starts.now s.n.solids s.n.all in
-    sym (segs_end m (world_of s.place) (samples_of (mouths_in s.mouths.now)) (silhouette_from (outlines_in s.segs.now) s.first s.p) l.d l.k (omega (arith, e, t, k))) ∙ l.invariant.2
+    sym (segs_end m (world_of s.place) (samples_of (mouths_in s.mouths.now)) (silhouette_from (outlines_in s.segs.now) s.first s.p) c.loop-k.d c.loop-k.k (omega (arith, e, t, k))) ∙ c.loop-k.invariant.2

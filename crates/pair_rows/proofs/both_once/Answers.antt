@@ -15,8 +15,7 @@ overflow_sub-left c = omega arith
 pub returns-then-not-driven_once : goal.returns-then-not-driven_once
 returns-then-not-driven_once c =
     let s = c.args in
-    let l = c.loop-left in
-    due-no (driven_once s.b) s.y l.body l.left l.invariant.1 (omega arith) l.invariant.0 (sym c.driven_once.ensures ∙ not_yes _ (ap not c.if-not-driven_once.true))
+    due-no (driven_once s.b) s.y c.loop-left.body c.loop-left.left c.loop-left.invariant.1 (omega arith) c.loop-left.invariant.0 (sym c.driven_once.ensures ∙ not_yes _ (ap not c.if-not-driven_once.true))
 
 pub loop-left-smaller : goal.loop-left-smaller
 loop-left-smaller c = omega arith
@@ -24,9 +23,8 @@ loop-left-smaller c = omega arith
 pub loop-left-preserved : goal.loop-left-preserved
 loop-left-preserved c =
     let s = c.args in
-    let l = c.loop-left in
-    let h = l.invariant.0 in
-    (omega (arith, h), due-less (driven_once s.b) s.y l.body l.left l.invariant.1 (omega arith) l.invariant.0 (sym c.driven_once.ensures ∙ not_no _ (ap not c.if-not-driven_once.false)))
+    let h = c.loop-left.invariant.0 in
+    (omega (arith, h), due-less (driven_once s.b) s.y c.loop-left.body c.loop-left.left c.loop-left.invariant.1 (omega arith) c.loop-left.invariant.0 (sym c.driven_once.ensures ∙ not_no _ (ap not c.if-not-driven_once.false)))
 
 pub returns : goal.returns
 returns c = due-none (driven_once c.args.b) c.args.y c.loop-left.body c.loop-left.left c.loop-left.invariant.1 (omega arith)

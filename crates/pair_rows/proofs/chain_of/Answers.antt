@@ -1,5 +1,4 @@
 use native.Mathlib.Omega.{arith}
-use Prim.Native.Nat.{◌-◌}
 use mathlib.Core.Path.{refl}
 use Rattle.laws.proofs.Writing.{starts, puts, goes_on}
 use Rattle.bodies.proofs.Walk.{in_range}
@@ -57,8 +56,7 @@ loop-steps-smaller-in-Revolute c = omega arith
 pub loop-steps-preserved-in-Revolute : goal.loop-steps-preserved-in-Revolute
 loop-steps-preserved-in-Revolute c =
     let test = c in
-    let l = test.loop-steps in
-    (omega arith, puts (coords-turn _ _ _ (omega arith) test.if-at.false c.in-Revolute.is) l.invariant.1)
+    (omega arith, puts (coords-turn _ _ _ (omega arith) test.if-at.false c.in-Revolute.is) test.loop-steps.invariant.1)
 
 pub offset_bounds-out-n-in-Prismatic : goal.offset_bounds-out-n-in-Prismatic
 offset_bounds-out-n-in-Prismatic c = let w = c.loop-steps.invariant.1.long in omega arith
@@ -75,8 +73,7 @@ loop-steps-smaller c = omega arith
 pub loop-steps-preserved : goal.loop-steps-preserved
 loop-steps-preserved c =
     let test = c in
-    let l = test.loop-steps in
-    (omega arith, puts (coords-turn _ _ _ (omega arith) test.if-at.false c.in-Prismatic.is) l.invariant.1)
+    (omega arith, puts (coords-turn _ _ _ (omega arith) test.if-at.false c.in-Prismatic.is) test.loop-steps.invariant.1)
 
 pub returns : goal.returns
 returns c = chain_done (coords-over _ _ _ (omega arith)) c.loop-steps.invariant.1

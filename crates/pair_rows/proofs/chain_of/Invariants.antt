@@ -1,4 +1,4 @@
-use Prim.Native.Nat.{◌+◌, ◌≤◌, ◌-◌}
+use Prim.Native.Nat.{◌+◌, ◌≤◌}
 use lib.ListN.{replicate}
 use Rattle.laws.specs.Loops.{Writing}
 use Rattle.pair_rows.specs.PairRows.{coords_up}

@@ -1,5 +1,4 @@
 use native.Mathlib.Omega.{arith}
-use Prim.Native.Nat.{◌-◌}
 use mathlib.Core.Path.{refl, sym, ◌∙◌}
 use Rattle.pair_rows.proofs.Order.{once-end, once-hit, once-on}
 use Rattle.pair_rows.proofs.is_once.Goals as goal
@@ -18,16 +17,14 @@ overflow_add-i c = omega arith
 
 pub returns-then-stands_behind : goal.returns-then-stands_behind
 returns-then-stands_behind c =
-    let l = c.loop-i in
-    once-hit _ l.i (omega arith) (sym c.stands_behind.ensures ∙ c.if-stands_behind.true) ∙ l.invariant
+    once-hit _ c.loop-i.i (omega arith) (sym c.stands_behind.ensures ∙ c.if-stands_behind.true) ∙ c.loop-i.invariant
 
 pub loop-i-smaller : goal.loop-i-smaller
 loop-i-smaller c = omega arith
 
 pub loop-i-preserved : goal.loop-i-preserved
 loop-i-preserved c =
-    let l = c.loop-i in
-    once-on _ l.i (omega arith) (sym c.stands_behind.ensures ∙ c.if-stands_behind.false) ∙ l.invariant
+    once-on _ c.loop-i.i (omega arith) (sym c.stands_behind.ensures ∙ c.if-stands_behind.false) ∙ c.loop-i.invariant
 
 pub returns : goal.returns
 returns c = once-end _ c.loop-i.i (omega arith) ∙ c.loop-i.invariant

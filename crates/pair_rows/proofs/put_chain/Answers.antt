@@ -1,5 +1,4 @@
 use native.Mathlib.Omega.{arith}
-use Prim.Native.Nat.{◌-◌}
 use Rattle.pair_rows.proofs.Along.{none_at, all_there, summed_start, summed_room, summed_put, summed_skip, summed_long, summed_end}
 use Rattle.pair_rows.proofs.put_chain.Goals as goal
 

@@ -1,5 +1,4 @@
 use native.Mathlib.Omega.{arith}
-use Prim.Native.Nat.{◌-◌}
 use mathlib.Core.Path.{refl, ◌∙◌}
 use borrow.Author.Tests.{eq-eqb, ne_eqb}
 use Rattle.pair_rows.proofs.Order.{stands-none, stands-hit, stands_on}
@@ -19,16 +18,14 @@ overflow_add-i c = omega arith
 
 pub returns-then-c-x : goal.returns-then-c-x
 returns-then-c-x c =
-    let l = c.loop-i in
-    stands-hit _ l.i (omega arith) _ (eq-eqb _ _ c.if-c-x.true) ∙ l.invariant
+    stands-hit _ c.loop-i.i (omega arith) _ (eq-eqb _ _ c.if-c-x.true) ∙ c.loop-i.invariant
 
 pub loop-i-smaller : goal.loop-i-smaller
 loop-i-smaller c = omega arith
 
 pub loop-i-preserved : goal.loop-i-preserved
 loop-i-preserved c =
-    let l = c.loop-i in
-    stands_on _ l.i (omega arith) _ (ne_eqb _ _ c.if-c-x.false) ∙ l.invariant
+    stands_on _ c.loop-i.i (omega arith) _ (ne_eqb _ _ c.if-c-x.false) ∙ c.loop-i.invariant
 
 pub returns : goal.returns
 returns c = stands-none _ c.loop-i.i _ (omega arith) ∙ c.loop-i.invariant

@@ -19,8 +19,7 @@ overflow_add-i c = omega arith
 pub returns-then-disc_deep : goal.returns-then-disc_deep
 returns-then-disc_deep c =
     let s = c in
-    let loop = c.loop-i in
-    sym (any-yes (λ d. any (λ f. found_deep (disc_on_face d f)) (list_in (face_at s.args.faces.now) s.args.n 0)) (disc_at s.args.discs.now) s.args.m loop.i c.loop-i-test.true (ap (λ (d : Disc). any (λ f. found_deep (disc_on_face d f)) (list_in (face_at s.args.faces.now) s.args.n 0)) (sym c.disc_at-d.ensures) ∙ sym c.disc_deep.ensures ∙ c.if-disc_deep.true)) ∙ loop.invariant
+    sym (any-yes (λ d. any (λ f. found_deep (disc_on_face d f)) (list_in (face_at s.args.faces.now) s.args.n 0)) (disc_at s.args.discs.now) s.args.m c.loop-i.i c.loop-i-test.true (ap (λ (d : Disc). any (λ f. found_deep (disc_on_face d f)) (list_in (face_at s.args.faces.now) s.args.n 0)) (sym c.disc_at-d.ensures) ∙ sym c.disc_deep.ensures ∙ c.if-disc_deep.true)) ∙ c.loop-i.invariant
 
 pub loop-i-smaller : goal.loop-i-smaller
 loop-i-smaller c = omega arith
@@ -28,8 +27,7 @@ loop-i-smaller c = omega arith
 pub loop-i-preserved : goal.loop-i-preserved
 loop-i-preserved c =
     let s = c in
-    let loop = c.loop-i in
-    sym (any-no (λ d. any (λ f. found_deep (disc_on_face d f)) (list_in (face_at s.args.faces.now) s.args.n 0)) (disc_at s.args.discs.now) s.args.m loop.i c.loop-i-test.true (ap (λ (d : Disc). any (λ f. found_deep (disc_on_face d f)) (list_in (face_at s.args.faces.now) s.args.n 0)) (sym c.disc_at-d.ensures) ∙ sym c.disc_deep.ensures ∙ c.if-disc_deep.false)) ∙ loop.invariant
+    sym (any-no (λ d. any (λ f. found_deep (disc_on_face d f)) (list_in (face_at s.args.faces.now) s.args.n 0)) (disc_at s.args.discs.now) s.args.m c.loop-i.i c.loop-i-test.true (ap (λ (d : Disc). any (λ f. found_deep (disc_on_face d f)) (list_in (face_at s.args.faces.now) s.args.n 0)) (sym c.disc_at-d.ensures) ∙ sym c.disc_deep.ensures ∙ c.if-disc_deep.false)) ∙ c.loop-i.invariant
 
 pub returns : goal.returns
 returns c =

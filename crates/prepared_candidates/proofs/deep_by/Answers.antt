@@ -40,42 +40,37 @@ slice_bounds-discs_on_b-end-3 c =
 pub slice_bounds-discs_on_a-end : goal.slice_bounds-discs_on_a-end
 slice_bounds-discs_on_a-end c =
     let s = c in
-    let draw-in = c.draw_in-n in
     let f = fitting s.args.drawn.now s.args.parts.now s.args.q s.args.cb s.args.points.now no_starts s.requires.2 starts-long in
-    let g = fitting-again s.args.drawn.now s.args.parts.now s.args.q s.args.ca s.args.points.now draw-in.new.0 no_starts draw-in.new.1.0 s.requires.2 starts-long (same_points f draw-in.ensures) (same-starts f draw-in.ensures) in
+    let g = fitting-again s.args.drawn.now s.args.parts.now s.args.q s.args.ca s.args.points.now c.draw_in-n.new.points no_starts c.draw_in-n.new.starts s.requires.2 starts-long (same_points f c.draw_in-n.ensures) (same-starts f c.draw_in-n.ensures) in
     points_in g c.draw_in-m.ensures
 
 pub slice_bounds-discs_on_a-end-2 : goal.slice_bounds-discs_on_a-end-2
 slice_bounds-discs_on_a-end-2 c =
     let s = c in
-    let draw-in = c.draw_in-n in
     let f = fitting s.args.drawn.now s.args.parts.now s.args.q s.args.cb s.args.points.now no_starts s.requires.2 starts-long in
-    let g = fitting-again s.args.drawn.now s.args.parts.now s.args.q s.args.ca s.args.points.now draw-in.new.0 no_starts draw-in.new.1.0 s.requires.2 starts-long (same_points f draw-in.ensures) (same-starts f draw-in.ensures) in
+    let g = fitting-again s.args.drawn.now s.args.parts.now s.args.q s.args.ca s.args.points.now c.draw_in-n.new.points no_starts c.draw_in-n.new.starts s.requires.2 starts-long (same_points f c.draw_in-n.ensures) (same-starts f c.draw_in-n.ensures) in
     points_lent g c.draw_in-m.ensures
 
 pub overflow_add-starts-2 : goal.overflow_add-starts-2
 overflow_add-starts-2 c =
     let s = c in
-    let draw-in = c.draw_in-n in
     let f = fitting s.args.drawn.now s.args.parts.now s.args.q s.args.cb s.args.points.now no_starts s.requires.2 starts-long in
-    let g = fitting-again s.args.drawn.now s.args.parts.now s.args.q s.args.ca s.args.points.now draw-in.new.0 no_starts draw-in.new.1.0 s.requires.2 starts-long (same_points f draw-in.ensures) (same-starts f draw-in.ensures) in
+    let g = fitting-again s.args.drawn.now s.args.parts.now s.args.q s.args.ca s.args.points.now c.draw_in-n.new.points no_starts c.draw_in-n.new.starts s.requires.2 starts-long (same_points f c.draw_in-n.ensures) (same-starts f c.draw_in-n.ensures) in
     let n = all-few g c.draw_in-m.ensures in
     omega (arith, n)
 
 pub slice_bounds-starts-end-2 : goal.slice_bounds-starts-end-2
 slice_bounds-starts-end-2 c =
     let s = c in
-    let draw-in = c.draw_in-n in
     let f = fitting s.args.drawn.now s.args.parts.now s.args.q s.args.cb s.args.points.now no_starts s.requires.2 starts-long in
-    let g = fitting-again s.args.drawn.now s.args.parts.now s.args.q s.args.ca s.args.points.now draw-in.new.0 no_starts draw-in.new.1.0 s.requires.2 starts-long (same_points f draw-in.ensures) (same-starts f draw-in.ensures) in
+    let g = fitting-again s.args.drawn.now s.args.parts.now s.args.q s.args.ca s.args.points.now c.draw_in-n.new.points no_starts c.draw_in-n.new.starts s.requires.2 starts-long (same_points f c.draw_in-n.ensures) (same-starts f c.draw_in-n.ensures) in
     starts-in g c.draw_in-m.ensures
 
 pub slice_bounds-discs_on_a-end-3 : goal.slice_bounds-discs_on_a-end-3
 slice_bounds-discs_on_a-end-3 c =
     let s = c in
-    let draw-in = c.draw_in-n in
     let f = fitting s.args.drawn.now s.args.parts.now s.args.q s.args.cb s.args.points.now no_starts s.requires.2 starts-long in
-    let g = fitting-again s.args.drawn.now s.args.parts.now s.args.q s.args.ca s.args.points.now draw-in.new.0 no_starts draw-in.new.1.0 s.requires.2 starts-long (same_points f draw-in.ensures) (same-starts f draw-in.ensures) in
+    let g = fitting-again s.args.drawn.now s.args.parts.now s.args.q s.args.ca s.args.points.now c.draw_in-n.new.points no_starts c.draw_in-n.new.starts s.requires.2 starts-long (same_points f c.draw_in-n.ensures) (same-starts f c.draw_in-n.ensures) in
     starts-lent g c.draw_in-m.ensures
 
 pub discs_on_a-j-requires : goal.discs_on_a-j-requires
@@ -93,16 +88,14 @@ discs_on_discs-requires c =
 pub shape_of-points : goal.shape_of-points
 shape_of-points c =
     let s = c in
-    let draw-in = c.draw_in-n in
     let f = fitting s.args.drawn.now s.args.parts.now s.args.q s.args.cb s.args.points.now no_starts s.requires.2 starts-long in
-    let g = fitting-again s.args.drawn.now s.args.parts.now s.args.q s.args.ca s.args.points.now draw-in.new.0 no_starts draw-in.new.1.0 s.requires.2 starts-long (same_points f draw-in.ensures) (same-starts f draw-in.ensures) in
-    same_points g c.draw_in-m.ensures ∙ same_points (fitting s.args.drawn.now s.args.parts.now s.args.q s.args.cb s.args.points.now no_starts s.requires.2 starts-long) draw-in.ensures
+    let g = fitting-again s.args.drawn.now s.args.parts.now s.args.q s.args.ca s.args.points.now c.draw_in-n.new.points no_starts c.draw_in-n.new.starts s.requires.2 starts-long (same_points f c.draw_in-n.ensures) (same-starts f c.draw_in-n.ensures) in
+    same_points g c.draw_in-m.ensures ∙ same_points (fitting s.args.drawn.now s.args.parts.now s.args.q s.args.cb s.args.points.now no_starts s.requires.2 starts-long) c.draw_in-n.ensures
 
 pub returns : goal.returns
 returns c =
     let s = c in
-    let draw-in = c.draw_in-n in
     let f = fitting s.args.drawn.now s.args.parts.now s.args.q s.args.cb s.args.points.now no_starts s.requires.2 starts-long in
-    let g = fitting-again s.args.drawn.now s.args.parts.now s.args.q s.args.ca s.args.points.now draw-in.new.0 no_starts draw-in.new.1.0 s.requires.2 starts-long (same_points f draw-in.ensures) (same-starts f draw-in.ensures) in
-    wrote_both (wrote_same (ap (λ (m : Material). each (read_ab m) (discs_from s.args.adiscs.now 0 s.args.dnames.now s.args.a.disc s.args.a.discs) (faces_from s.args.bfaces.now 0 s.args.fnames.now s.args.b.face s.args.b.faces)) (lent-material (fitting s.args.drawn.now s.args.parts.now s.args.q s.args.cb s.args.points.now no_starts s.requires.2 starts-long) draw-in.ensures ∙ material_in_lem s.args.drawn.now s.args.parts.now s.args.q s.args.cb)) c.discs_on_b-i.ensures)
+    let g = fitting-again s.args.drawn.now s.args.parts.now s.args.q s.args.ca s.args.points.now c.draw_in-n.new.points no_starts c.draw_in-n.new.starts s.requires.2 starts-long (same_points f c.draw_in-n.ensures) (same-starts f c.draw_in-n.ensures) in
+    wrote_both (wrote_same (ap (λ (m : Material). each (read_ab m) (discs_from s.args.adiscs.now 0 s.args.dnames.now s.args.a.disc s.args.a.discs) (faces_from s.args.bfaces.now 0 s.args.fnames.now s.args.b.face s.args.b.faces)) (lent-material (fitting s.args.drawn.now s.args.parts.now s.args.q s.args.cb s.args.points.now no_starts s.requires.2 starts-long) c.draw_in-n.ensures ∙ material_in_lem s.args.drawn.now s.args.parts.now s.args.q s.args.cb)) c.discs_on_b-i.ensures)
     (wrote_both (wrote_same (ap (λ (m : Material). each (read_ba m) (discs_from s.args.bdiscs.now 0 s.args.dnames.now s.args.b.disc s.args.b.discs) (faces_from s.args.afaces.now 0 s.args.fnames.now s.args.a.face s.args.a.faces)) (lent-material g c.draw_in-m.ensures ∙ material_in_lem s.args.drawn.now s.args.parts.now s.args.q s.args.ca)) c.discs_on_a-j.ensures) c.discs_on_discs.ensures)

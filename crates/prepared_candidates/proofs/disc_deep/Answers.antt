@@ -19,8 +19,7 @@ overflow_add-k c = omega arith
 pub returns-then-found_deep : goal.returns-then-found_deep
 returns-then-found_deep c =
     let s = c in
-    let loop = c.loop-k in
-    sym (any-yes (λ f. found_deep (disc_on_face s.args.d f)) (face_at s.args.faces.now) s.args.n loop.k c.loop-k-test.true (ap (λ (f : Face). found_deep (disc_on_face s.args.d f)) (sym c.face_at-f.ensures) ∙ ap (λ m. found_deep m) (sym c.disc_on_face.ensures) ∙ sym c.found_deep.ensures ∙ c.if-found_deep.true)) ∙ loop.invariant
+    sym (any-yes (λ f. found_deep (disc_on_face s.args.d f)) (face_at s.args.faces.now) s.args.n c.loop-k.k c.loop-k-test.true (ap (λ (f : Face). found_deep (disc_on_face s.args.d f)) (sym c.face_at-f.ensures) ∙ ap (λ m. found_deep m) (sym c.disc_on_face.ensures) ∙ sym c.found_deep.ensures ∙ c.if-found_deep.true)) ∙ c.loop-k.invariant
 
 pub loop-k-smaller : goal.loop-k-smaller
 loop-k-smaller c = omega arith
@@ -28,8 +27,7 @@ loop-k-smaller c = omega arith
 pub loop-k-preserved : goal.loop-k-preserved
 loop-k-preserved c =
     let s = c in
-    let loop = c.loop-k in
-    sym (any-no (λ f. found_deep (disc_on_face s.args.d f)) (face_at s.args.faces.now) s.args.n loop.k c.loop-k-test.true (ap (λ (f : Face). found_deep (disc_on_face s.args.d f)) (sym c.face_at-f.ensures) ∙ ap (λ m. found_deep m) (sym c.disc_on_face.ensures) ∙ sym c.found_deep.ensures ∙ c.if-found_deep.false)) ∙ loop.invariant
+    sym (any-no (λ f. found_deep (disc_on_face s.args.d f)) (face_at s.args.faces.now) s.args.n c.loop-k.k c.loop-k-test.true (ap (λ (f : Face). found_deep (disc_on_face s.args.d f)) (sym c.face_at-f.ensures) ∙ ap (λ m. found_deep m) (sym c.disc_on_face.ensures) ∙ sym c.found_deep.ensures ∙ c.if-found_deep.false)) ∙ c.loop-k.invariant
 
 pub returns : goal.returns
 returns c =

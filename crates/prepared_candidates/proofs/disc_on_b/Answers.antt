@@ -24,12 +24,9 @@ loop-k-smaller c = omega arith
 pub loop-k-preserved : goal.loop-k-preserved
 loop-k-preserved c =
     let s = c in
-    let loop = c.loop-k in
-    let piece-at = c.piece_at-other in
-    let face-at = c.face_at in
-    let room = listed-one loop.invariant (ab_short (material_of s.args.points.now s.args.starts.now s.args.polygons.solids s.args.polygons.all) (record { piece = s.args.piece; disc = s.args.disc })) c.loop-k-test.true (let p = s.requires.0 in omega arith) (let p = s.requires.1 in omega arith) in
-    listed_more loop.invariant c.loop-k-test.true (face-named s.args.faces.now s.args.names.now s.args.from loop.k piece-at.ensures face-at.ensures)
-    (wrote_ab (material_of s.args.points.now s.args.starts.now s.args.polygons.solids s.args.polygons.all) (record { piece = s.args.piece; disc = s.args.disc }) (record { piece = piece-at.result; face = face-at.result }) c.on_face_b-found.ensures (wrote_read room c.put_candidate-to.ensures))
+    let room = listed-one c.loop-k.invariant (ab_short (material_of s.args.points.now s.args.starts.now s.args.polygons.solids s.args.polygons.all) (record { piece = s.args.piece; disc = s.args.disc })) c.loop-k-test.true (let p = s.requires.0 in omega arith) (let p = s.requires.1 in omega arith) in
+    listed_more c.loop-k.invariant c.loop-k-test.true (face-named s.args.faces.now s.args.names.now s.args.from c.loop-k.k c.piece_at-other.ensures c.face_at.ensures)
+    (wrote_ab (material_of s.args.points.now s.args.starts.now s.args.polygons.solids s.args.polygons.all) (record { piece = s.args.piece; disc = s.args.disc }) (record { piece = c.piece_at-other.result; face = c.face_at.result }) c.on_face_b-found.ensures (wrote_read room c.put_candidate-to.ensures))
 
 pub shape_of-near : goal.shape_of-near
 shape_of-near c = wrote_near c.loop-k.invariant.done

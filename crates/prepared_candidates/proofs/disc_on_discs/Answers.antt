@@ -23,12 +23,9 @@ loop-k-smaller c = omega arith
 pub loop-k-preserved : goal.loop-k-preserved
 loop-k-preserved c =
     let s = c in
-    let loop = c.loop-k in
-    let piece-at = c.piece_at-other in
-    let disc-at = c.disc_at in
-    let room = listed-one loop.invariant (discs_short (record { piece = s.args.piece; disc = s.args.disc })) c.loop-k-test.true (let p = s.requires.0 in omega arith) (let p = s.requires.1 in omega arith) in
-    listed_more loop.invariant c.loop-k-test.true (disc_named s.args.discs.now s.args.names.now s.args.from loop.k piece-at.ensures disc-at.ensures)
-    (wrote_discs (record { piece = s.args.piece; disc = s.args.disc }) (record { piece = piece-at.result; disc = disc-at.result }) c.disc_on_disc-found.ensures (wrote_read room c.put_candidate-to.ensures))
+    let room = listed-one c.loop-k.invariant (discs_short (record { piece = s.args.piece; disc = s.args.disc })) c.loop-k-test.true (let p = s.requires.0 in omega arith) (let p = s.requires.1 in omega arith) in
+    listed_more c.loop-k.invariant c.loop-k-test.true (disc_named s.args.discs.now s.args.names.now s.args.from c.loop-k.k c.piece_at-other.ensures c.disc_at.ensures)
+    (wrote_discs (record { piece = s.args.piece; disc = s.args.disc }) (record { piece = c.piece_at-other.result; disc = c.disc_at.result }) c.disc_on_disc-found.ensures (wrote_read room c.put_candidate-to.ensures))
 
 pub shape_of-near : goal.shape_of-near
 shape_of-near c = wrote_near c.loop-k.invariant.done

@@ -31,8 +31,7 @@ loop-i-smaller c = omega arith
 pub loop-i-preserved : goal.loop-i-preserved
 loop-i-preserved c =
     let s = c in
-    let loop = c.loop-i in
-    listed_more loop.invariant c.loop-i-test.true (disc_named s.args.discs.now s.args.dnames.now s.args.b.disc loop.i c.piece_at-piece.ensures c.disc_at-disc.ensures) c.disc_on_a-to.ensures
+    listed_more c.loop-i.invariant c.loop-i-test.true (disc_named s.args.discs.now s.args.dnames.now s.args.b.disc c.loop-i.i c.piece_at-piece.ensures c.disc_at-disc.ensures) c.disc_on_a-to.ensures
 
 pub shape_of-near : goal.shape_of-near
 shape_of-near c = wrote_near c.loop-i.invariant.done

@@ -48,17 +48,14 @@ overflow_add-result-then-a-eq0 c =
 pub returns-then-a-eq0 : goal.returns-then-a-eq0
 returns-then-a-eq0 c =
     let s = c in
-    let side-at = c.side_at-a in
-    let side-at2 = c.side_at-b in
-    let w = few-places side-at.ensures.1 side-at2.ensures.1 in
+    let w = few-places c.side_at-a.ensures.1 c.side_at-b.ensures.1 in
     let x = w.0 in
     let y = w.1 in
     let z = w.2 in
-    (features_bound s.args.sides.now s.args.pair (side-at.ensures.0 ∙ ap (λ (k : ℕ). side_at s.args.sides.now k) c.row_a.ensures) (side-at2.ensures.0 ∙ ap (λ (k : ℕ). side_at s.args.sides.now k) c.row_b.ensures) c.if-a-eq0.true, omega (arith, x, y, z))
+    (features_bound s.args.sides.now s.args.pair (c.side_at-a.ensures.0 ∙ ap (λ (k : ℕ). side_at s.args.sides.now k) c.row_a.ensures) (c.side_at-b.ensures.0 ∙ ap (λ (k : ℕ). side_at s.args.sides.now k) c.row_b.ensures) c.if-a-eq0.true, omega (arith, x, y, z))
 
 pub returns : goal.returns
 returns c =
     let s = c in
-    let side-at = c.side_at-a in
-    let w = side-at.ensures.1.faces_few in
-    (center_bound s.args.sides.now s.args.pair (side-at.ensures.0 ∙ ap (λ (k : ℕ). side_at s.args.sides.now k) c.row_a.ensures) c.if-a-eq0.false, omega (arith, w))
+    let w = c.side_at-a.ensures.1.faces_few in
+    (center_bound s.args.sides.now s.args.pair (c.side_at-a.ensures.0 ∙ ap (λ (k : ℕ). side_at s.args.sides.now k) c.row_a.ensures) c.if-a-eq0.false, omega (arith, w))

@@ -12,11 +12,10 @@ use Rattle.prepared_candidates.proofs.pair_candidates_in.Goals as goal
 pub candidates_of-requires : goal.candidates_of-requires
 candidates_of-requires c =
     let s = c in
-    let pair-bound-in = c.pair_bound_in-bound in
-    let t = both (leb pair-bound-in.result (length s.args.near.now)) (leb pair-bound-in.result (length s.args.named.now)) c.if-bound-near.true in
-    let x = leb-true pair-bound-in.result (length s.args.near.now) t.0 in
-    let y = leb-true pair-bound-in.result (length s.args.named.now) t.1 in
-    let e = pair-bound-in.ensures.0 in
+    let t = both (leb c.pair_bound_in-bound.result (length s.args.near.now)) (leb c.pair_bound_in-bound.result (length s.args.named.now)) c.if-bound-near.true in
+    let x = leb-true c.pair_bound_in-bound.result (length s.args.near.now) t.0 in
+    let y = leb-true c.pair_bound_in-bound.result (length s.args.named.now) t.1 in
+    let e = c.pair_bound_in-bound.ensures.0 in
     (omega (arith, e, x), omega (arith, e, y))
 
 pub returns-then-bound-near : goal.returns-then-bound-near

@@ -9,5 +9,4 @@ use Rattle.prepared_candidates.proofs.pair_of_center.Goals as goal
 pub returns : goal.returns
 returns c =
     let s = c in
-    let placement-at = c.placement_at in
-    wrote_same (ap (flat (read_center (material_or s.args.drawn.now s.args.parts.now s.args.q s.args.ca) s.args.piece s.args.c)) (faces_back placement-at.result no_faces s.args.faces.now s.args.fnames.now s.args.a.face s.args.a.faces (faces_fit s.requires.0.faces_few) placement-at.ensures c.place_faces.ensures)) c.center_candidates.ensures
+    wrote_same (ap (flat (read_center (material_or s.args.drawn.now s.args.parts.now s.args.q s.args.ca) s.args.piece s.args.c)) (faces_back c.placement_at.result no_faces s.args.faces.now s.args.fnames.now s.args.a.face s.args.a.faces (faces_fit s.requires.0.faces_few) c.placement_at.ensures c.place_faces.ensures)) c.center_candidates.ensures

@@ -36,9 +36,8 @@ loop-i-smaller c = omega arith
 pub loop-i-preserved : goal.loop-i-preserved
 loop-i-preserved c =
     let s = c in
-    let loop = c.loop-i in
     let e = c.disc_row.ensures ∙ ap (λ (f : Disc). disc_row f) (c.world_disc.ensures ∙ ap (λ (f : Disc). world_disc s.args.place f) c.disc_at.ensures) in
-    (omega arith, puts (list_turn (λ j. disc_row (world_disc s.args.place (disc_at s.args.discs.now (s.args.first + j)))) s.args.n loop.i c.loop-i-test.true ∙ ap (λ (x : List Float). x ∷ list_in (λ j. disc_row (world_disc s.args.place (disc_at s.args.discs.now (s.args.first + j)))) (s.args.n - (loop.i + 1)) (loop.i + 1)) (sym e)) loop.invariant.1)
+    (omega arith, puts (list_turn (λ j. disc_row (world_disc s.args.place (disc_at s.args.discs.now (s.args.first + j)))) s.args.n c.loop-i.i c.loop-i-test.true ∙ ap (λ (x : List Float). x ∷ list_in (λ j. disc_row (world_disc s.args.place (disc_at s.args.discs.now (s.args.first + j)))) (s.args.n - (c.loop-i.i + 1)) (c.loop-i.i + 1)) (sym e)) c.loop-i.invariant.1)
 
 pub shape_of-out : goal.shape_of-out
 shape_of-out c = c.loop-i.invariant.1.long

@@ -36,9 +36,8 @@ loop-i-smaller c = omega arith
 pub loop-i-preserved : goal.loop-i-preserved
 loop-i-preserved c =
     let s = c in
-    let loop = c.loop-i in
     let e = c.face_row.ensures ∙ ap (λ (f : Face). face_row f) (c.world_face.ensures ∙ ap (λ (f : Face). world_face s.args.place f) c.face_at.ensures) in
-    (omega arith, puts (list_turn (λ j. face_row (world_face s.args.place (face_at s.args.faces.now (s.args.first + j)))) s.args.n loop.i c.loop-i-test.true ∙ ap (λ (x : List Float). x ∷ list_in (λ j. face_row (world_face s.args.place (face_at s.args.faces.now (s.args.first + j)))) (s.args.n - (loop.i + 1)) (loop.i + 1)) (sym e)) loop.invariant.1)
+    (omega arith, puts (list_turn (λ j. face_row (world_face s.args.place (face_at s.args.faces.now (s.args.first + j)))) s.args.n c.loop-i.i c.loop-i-test.true ∙ ap (λ (x : List Float). x ∷ list_in (λ j. face_row (world_face s.args.place (face_at s.args.faces.now (s.args.first + j)))) (s.args.n - (c.loop-i.i + 1)) (c.loop-i.i + 1)) (sym e)) c.loop-i.invariant.1)
 
 pub shape_of-out : goal.shape_of-out
 shape_of-out c = c.loop-i.invariant.1.long

@@ -26,16 +26,14 @@ loop-i-smaller c = omega arith
 
 pub loop-i-preserved : goal.loop-i-preserved
 loop-i-preserved c =
-    let l = c.loop-i in
-    let v = l.invariant in
+    let v = c.loop-i.invariant in
     let e = c.pair_bound_in-sum.ensures in
-    let s = sum_more (bound_in c.args.sides.now) l.i in
+    let s = sum_more (bound_in c.args.sides.now) c.loop-i.i in
     (omega arith, omega (arith, v.1, e.0, s), omega (arith, v.2, e.1))
 
 pub returns : goal.returns
 returns c =
-    let l = c.loop-i in
-    let v = l.invariant in
+    let v = c.loop-i.invariant in
     let a = c.args in
-    let n : l.i ≡ a.n = omega (arith, v.0, c.loop-i-test.false) in
+    let n : c.loop-i.i ≡ a.n = omega (arith, v.0, c.loop-i-test.false) in
     (v.1 ∙ ap (λ k. sum_in (bound_in a.sides.now) k 0) n, omega (arith, v.0, v.2, c.requires))

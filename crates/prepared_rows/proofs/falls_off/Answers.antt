@@ -19,24 +19,22 @@ overflow_add-i c = omega arith
 
 pub returns-then-bodies-a : goal.returns-then-bodies-a
 returns-then-bodies-a c =
-    let l = c.loop-i in
     let a = c.args in
-    let x = body_read a.sides.now (row_a l.i) c.side_at-a.ensures.0 c.row_a.ensures in
-    let y = body_read a.sides.now (row_b l.i) c.side_at-b.ensures.0 c.row_b.ensures in
+    let x = body_read a.sides.now (row_a c.loop-i.i) c.side_at-a.ensures.0 c.row_a.ensures in
+    let y = body_read a.sides.now (row_b c.loop-i.i) c.side_at-b.ensures.0 c.row_b.ensures in
     let e = ap₂ (λ v w. ltb a.bodies v || ltb a.bodies w) (sym x) (sym y) ∙ c.if-bodies-a.true in
-    sym (sym l.invariant.1 ∙ any-yes (falls_off a.bodies a.sides.now) _ _ (omega arith) e)
+    sym (sym c.loop-i.invariant.1 ∙ any-yes (falls_off a.bodies a.sides.now) _ _ (omega arith) e)
 
 pub loop-i-smaller : goal.loop-i-smaller
 loop-i-smaller c = omega arith
 
 pub loop-i-preserved : goal.loop-i-preserved
 loop-i-preserved c =
-    let l = c.loop-i in
     let a = c.args in
-    let x = body_read a.sides.now (row_a l.i) c.side_at-a.ensures.0 c.row_a.ensures in
-    let y = body_read a.sides.now (row_b l.i) c.side_at-b.ensures.0 c.row_b.ensures in
+    let x = body_read a.sides.now (row_a c.loop-i.i) c.side_at-a.ensures.0 c.row_a.ensures in
+    let y = body_read a.sides.now (row_b c.loop-i.i) c.side_at-b.ensures.0 c.row_b.ensures in
     let e = ap₂ (λ v w. ltb a.bodies v || ltb a.bodies w) (sym x) (sym y) ∙ c.if-bodies-a.false in
-    (omega arith, sym (any-no (falls_off a.bodies a.sides.now) _ _ (omega arith) e) ∙ l.invariant.1)
+    (omega arith, sym (any-no (falls_off a.bodies a.sides.now) _ _ (omega arith) e) ∙ c.loop-i.invariant.1)
 
 pub returns : goal.returns
 returns c =

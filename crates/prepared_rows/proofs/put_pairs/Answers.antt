@@ -13,13 +13,12 @@ loop-pair-init c = pairs_start _ _ _ _ _ _ _ _ _ _
 pub put_pair-at-requires : goal.put_pair-at-requires
 put_pair-at-requires c =
     let s = c in
-    let l = c.loop-pair in
     let h = c.loop-pair-test.true in
-    let k = sum_more (bound_in s.args.sides.now) l.pair in
-    let m = sum_mono (bound_in s.args.sides.now) (l.pair + 1) s.args.n (omega (arith, h)) in
-    let u = l.invariant.upto in
+    let k = sum_more (bound_in s.args.sides.now) c.loop-pair.pair in
+    let m = sum_mono (bound_in s.args.sides.now) (c.loop-pair.pair + 1) s.args.n (omega (arith, h)) in
+    let u = c.loop-pair.invariant.upto in
     let p = s.requires.2 in
-    (s.requires.0, omega (arith, k, m, u, p), pairs-room l.invariant (bounds_in s.args.sides.now s.args.n) _ s.requires.3 (omega (arith, k, m)) (omega arith))
+    (s.requires.0, omega (arith, k, m, u, p), pairs-room c.loop-pair.invariant (bounds_in s.args.sides.now s.args.n) _ s.requires.3 (omega (arith, k, m)) (omega arith))
 
 pub overflow_add-pair : goal.overflow_add-pair
 overflow_add-pair c = let f = c.requires.1 in omega (arith, f)
@@ -30,8 +29,7 @@ loop-pair-smaller c = omega arith
 pub loop-pair-preserved : goal.loop-pair-preserved
 loop-pair-preserved c =
     let a = c.args in
-    let l = c.loop-pair in
-    pairs-more l.invariant c.loop-pair-test.true (rows_few a.faces.now a.fnames.now a.discs.now a.dnames.now a.sides.now a.centers.now a.choices.now a.drawn.now a.parts.now a.q l.pair a.bodies a.margin) (grads-long a.faces.now a.fnames.now a.discs.now a.dnames.now a.sides.now a.centers.now a.choices.now a.drawn.now a.parts.now a.q l.pair a.bodies a.margin) (slips-long a.faces.now a.fnames.now a.discs.now a.dnames.now a.sides.now a.centers.now a.choices.now a.drawn.now a.parts.now a.q l.pair a.bodies a.margin) c.put_pair-at.ensures
+    pairs-more c.loop-pair.invariant c.loop-pair-test.true (rows_few a.faces.now a.fnames.now a.discs.now a.dnames.now a.sides.now a.centers.now a.choices.now a.drawn.now a.parts.now a.q c.loop-pair.pair a.bodies a.margin) (grads-long a.faces.now a.fnames.now a.discs.now a.dnames.now a.sides.now a.centers.now a.choices.now a.drawn.now a.parts.now a.q c.loop-pair.pair a.bodies a.margin) (slips-long a.faces.now a.fnames.now a.discs.now a.dnames.now a.sides.now a.centers.now a.choices.now a.drawn.now a.parts.now a.q c.loop-pair.pair a.bodies a.margin) c.put_pair-at.ensures
 
 pub shape_of-places : goal.shape_of-places
 shape_of-places c = c.loop-pair.invariant.placed.long

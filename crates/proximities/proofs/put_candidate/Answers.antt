@@ -40,8 +40,7 @@ overflow_add-result c =
 pub returns-then-at-near : goal.returns-then-at-near
 returns-then-at-near c =
     let s = c in
-    let found = c.found-1 in
-    put_one s.args.a s.args.b s.args.who found.given.0.0 s.args.at s.args.near.now s.args.named.now c.if-at-near.true found.given.1 c.letter.ensures c.part.ensures c.seg.ensures c.letter-then-at-near.ensures c.part-then-at-near.ensures c.seg-then-at-near.ensures
+    put_one s.args.a s.args.b s.args.who c.in-SomeProximity.x s.args.at s.args.near.now s.args.named.now c.if-at-near.true c.in-SomeProximity.is c.letter.ensures c.part.ensures c.seg.ensures c.letter-then-at-near.ensures c.part-then-at-near.ensures c.seg-then-at-near.ensures
 
 pub returns-else-at-near : goal.returns-else-at-near
 returns-else-at-near c =

@@ -53,15 +53,13 @@ loop-i-smaller c = omega arith
 pub loop-i-preserved : goal.loop-i-preserved
 loop-i-preserved c =
     let s = c in
-    let l = c.loop-i in
     let a = s.args in (
       omega arith,
-      pairs-turn a.m.parts a.m.outlines a.m.pairs a.q a.places.now a.values.now a.n l.i s.requires.1 s.requires.2
-          c.loop-i-test.true c.read_pair.ensures l.invariant.1,
+      pairs-turn a.m.parts a.m.outlines a.m.pairs a.q a.places.now a.values.now a.n c.loop-i.i s.requires.1 s.requires.2
+          c.loop-i-test.true c.read_pair.ensures c.loop-i.invariant.1,
     )
 
 pub returns : goal.returns
 returns c =
     let s = c.args in
-    let l = c.loop-i in
-    pairs_end s.m.parts s.m.outlines s.m.pairs s.q s.places.now s.values.now s.n l.i c.loop-i-test.false l.invariant.1
+    pairs_end s.m.parts s.m.outlines s.m.pairs s.q s.places.now s.values.now s.n c.loop-i.i c.loop-i-test.false c.loop-i.invariant.1

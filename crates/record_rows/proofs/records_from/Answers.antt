@@ -40,16 +40,14 @@ loop-i-smaller c = omega arith
 pub loop-i-preserved : goal.loop-i-preserved
 loop-i-preserved c =
     let s = c in
-    let l = c.loop-i in
-    let turned = list_turn (row_at s.args.places.now s.args.values.now) s.args.n l.i (omega arith) in (
+    let turned = list_turn (row_at s.args.places.now s.args.values.now) s.args.n c.loop-i.i (omega arith) in (
       omega arith,
-      fill_put (omega arith) (turned ∙ ap (λ r. r ∷ list_in (row_at s.args.places.now s.args.values.now) (s.args.n - (l.i + 1)) (l.i + 1)) (sym c.row_from.ensures))
-          l.invariant.1,
+      fill_put (omega arith) (turned ∙ ap (λ r. r ∷ list_in (row_at s.args.places.now s.args.values.now) (s.args.n - (c.loop-i.i + 1)) (c.loop-i.i + 1)) (sym c.row_from.ensures))
+          c.loop-i.invariant.1,
     )
 
 pub returns : goal.returns
 returns c =
     let s = c in
-    let l = c.loop-i in
-    let e : l.i ≡ s.args.n = omega arith in
-    (refl, ap (λ k. take k l.row) (sym e) ∙ fill_end (list_done (row_at s.args.places.now s.args.values.now) s.args.n l.i (omega arith)) l.invariant.1)
+    let e : c.loop-i.i ≡ s.args.n = omega arith in
+    (refl, ap (λ k. take k c.loop-i.row) (sym e) ∙ fill_end (list_done (row_at s.args.places.now s.args.values.now) s.args.n c.loop-i.i (omega arith)) c.loop-i.invariant.1)

@@ -13,6 +13,5 @@ gap_of-found-requires c = few c.least.result c.least-n.result c.least-n.ensures
 pub returns : goal.returns
 returns c =
     let s = c in
-    let found = c.records_by_value-h in
-    let h = rows_are s.args.places.now s.args.values.now c.least.result c.least-n.result c.least.ensures c.least-n.ensures found.result.row found.ensures in
+    let h = rows_are s.args.places.now s.args.values.now c.least.result c.least-n.result c.least.ensures c.least-n.ensures c.records_by_value-h.result.row c.records_by_value-h.ensures in
     c.gap_or.ensures ∙ ap (λ a. gap_or a s.args.x) (c.gap_of-found.ensures ∙ ap (λ l. gap_record l s.args.pair) h)

@@ -41,14 +41,12 @@ loop-i-smaller c = omega arith
 pub loop-i-preserved : goal.loop-i-preserved
 loop-i-preserved c =
     let s = c in
-    let l = c.loop-i in
     let k = silhouette_long s.args.sil _ s.well_formed.1.1.0 in
     let n : s.args.sil.count ≤ length s.args.sil.seg = omega arith in
-    let e : l.i ≡ l.i - 1 + 1 = omega arith in
-    (omega arith, omega arith, omega arith, fill_put (omega arith) (ap (λ i. map (F.backwardStep (segs_in s.args.sil)) (reverse (range s.args.first i))) e ∙ ap (map (F.backwardStep (segs_in s.args.sil))) (reverse_range s.args.first (l.i - 1) (omega arith)) ∙ ap (λ x. x ∷ map (F.backwardStep (segs_in s.args.sil)) (reverse (range s.args.first (l.i - 1)))) (backward_at s.args.sil (l.i - 1) n (omega arith) _ c.run_back.ensures)) l.invariant.3)
+    let e : c.loop-i.i ≡ c.loop-i.i - 1 + 1 = omega arith in
+    (omega arith, omega arith, omega arith, fill_put (omega arith) (ap (λ i. map (F.backward_step (segs_in s.args.sil)) (reverse (range s.args.first i))) e ∙ ap (map (F.backward_step (segs_in s.args.sil))) (reverse_range s.args.first (c.loop-i.i - 1) (omega arith)) ∙ ap (λ x. x ∷ map (F.backward_step (segs_in s.args.sil)) (reverse (range s.args.first (c.loop-i.i - 1)))) (backward_at s.args.sil (c.loop-i.i - 1) n (omega arith) _ c.run_back.ensures)) c.loop-i.invariant.3)
 
 pub returns : goal.returns
 returns c =
     let s = c in
-    let l = c.loop-i in
-    (omega arith, fill_end (ap (λ m. map (F.backwardStep (segs_in s.args.sil)) (reverse m)) (range-done s.args.first l.i c.loop-i-test.false)) l.invariant.3)
+    (omega arith, fill_end (ap (λ m. map (F.backward_step (segs_in s.args.sil)) (reverse m)) (range-done s.args.first c.loop-i.i c.loop-i-test.false)) c.loop-i.invariant.3)

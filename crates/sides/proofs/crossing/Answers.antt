@@ -1,4 +1,3 @@
-use Prim.Native.Nat.{◌-◌}
 use native.Mathlib.Omega.{arith}
 use mathlib.Core.Path.{refl, sym, ap, ◌∙◌}
 use Rattle.geometry.specs.Geometry.{start_of}
@@ -16,9 +15,8 @@ overflow_add-i c = omega arith
 pub returns-then-same : goal.returns-then-same
 returns-then-same c =
     let s = c.args in
-    let l = c.loop-i in
     let q = c.start-q.ensures ∙ ap start_of c.silhouette_seg-g.ensures in
-    cross_hit s.axis (silhouette_from (outlines_in s.segs.now) s.first s.p) l.i s.past c.loop-i-test.true q (sym c.same.ensures ∙ c.if-same.true) ∙ l.invariant
+    cross_hit s.axis (silhouette_from (outlines_in s.segs.now) s.first s.p) c.loop-i.i s.past c.loop-i-test.true q (sym c.same.ensures ∙ c.if-same.true) ∙ c.loop-i.invariant
 
 pub loop-i-smaller : goal.loop-i-smaller
 loop-i-smaller c = omega arith
@@ -26,12 +24,10 @@ loop-i-smaller c = omega arith
 pub loop-i-preserved : goal.loop-i-preserved
 loop-i-preserved c =
     let s = c.args in
-    let l = c.loop-i in
     let q = c.start-q.ensures ∙ ap start_of c.silhouette_seg-g.ensures in
-    cross_miss s.axis (silhouette_from (outlines_in s.segs.now) s.first s.p) l.i s.past c.loop-i-test.true q (sym c.same.ensures ∙ c.if-same.false) ∙ l.invariant
+    cross_miss s.axis (silhouette_from (outlines_in s.segs.now) s.first s.p) c.loop-i.i s.past c.loop-i-test.true q (sym c.same.ensures ∙ c.if-same.false) ∙ c.loop-i.invariant
 
 pub returns : goal.returns
 returns c =
     let s = c.args in
-    let l = c.loop-i in
-    cross_none s.axis (silhouette_from (outlines_in s.segs.now) s.first s.p) l.i s.past c.loop-i-test.false ∙ l.invariant
+    cross_none s.axis (silhouette_from (outlines_in s.segs.now) s.first s.p) c.loop-i.i s.past c.loop-i-test.false ∙ c.loop-i.invariant

@@ -20,7 +20,7 @@ returns-in-SomeSeg c =
     let l = c.last_seg-last.ensures in
     let m = c.meet-continued.ensures ∙ ap (λ l. F.meets l s.next) l in
     let g = c.in-SomeSeg.is in
-    ap (F.placedDisc (Piece.Vertex s.t.part s.t.ends)) (c.corner.ensures ∙ ap (F.between c.last_seg-last.result) (sym g) ∙ ap (λ x. F.between x s.t.after) l)
+    ap (F.placed_disc (Piece.Vertex s.t.part s.t.ends)) (c.corner.ensures ∙ ap (F.between c.last_seg-last.result) (sym g) ∙ ap (λ x. F.between x s.t.after) l)
     ∙ sym (cond_no _ _ (ap (λ b. b || s.t.wrapped) (sym m) ∙ c.if-continued-wrapped.false))
 
 pub returns-in-NoSeg : goal.returns-in-NoSeg
@@ -30,5 +30,5 @@ returns-in-NoSeg c =
     let l = c.last_seg-last.ensures in
     let m = c.meet-continued.ensures ∙ ap (λ l. F.meets l s.next) l in
     let g = c.in-NoSeg.is in
-    ap (F.placedDisc (Piece.Vertex s.t.part s.t.ends)) (ap (F.between (F.lastSeg (F.run_of s.t))) (sym g))
+    ap (F.placed_disc (Piece.Vertex s.t.part s.t.ends)) (ap (F.between (F.last_seg (F.run_of s.t))) (sym g))
     ∙ sym (cond_no _ _ (ap (λ b. b || s.t.wrapped) (sym m) ∙ c.if-continued-wrapped.false))

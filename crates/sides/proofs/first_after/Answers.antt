@@ -20,11 +20,11 @@ returns-then-i-ts c =
     let s = c in
     let l = runs_long s.args.ts _ s.well_formed.0 in
     let m = runs_count s.args.ts (omega arith) in
-    c.first_seg.ensures ∙ ap F.firstSeg (sym (run_at_lem s.args.ts (s.args.k + 1) (omega arith))) ∙ sym (cond_yes _ _ (lt-ltb (s.args.k + 1) (length (F.runsIn s.args.ts)) (omega arith)))
+    c.first_seg.ensures ∙ ap F.first_seg (sym (run_at_lem s.args.ts (s.args.k + 1) (omega arith))) ∙ sym (cond_yes _ _ (lt-ltb (s.args.k + 1) (length (F.runs_in s.args.ts)) (omega arith)))
 
 pub returns : goal.returns
 returns c =
     let s = c in
     let l = runs_long s.args.ts _ s.well_formed.0 in
     let m = runs_count s.args.ts (omega arith) in
-    sym (cond_no _ _ (le-ltb (s.args.k + 1) (length (F.runsIn s.args.ts)) (omega arith)))
+    sym (cond_no _ _ (le-ltb (s.args.k + 1) (length (F.runs_in s.args.ts)) (omega arith)))

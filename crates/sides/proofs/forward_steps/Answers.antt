@@ -1,4 +1,4 @@
-use Prim.Native.Nat.{◌+◌, ◌≤◌, ◌-◌}
+use Prim.Native.Nat.{◌+◌, ◌≤◌}
 use native.Mathlib.Omega.{arith}
 use mathlib.Core.Path.{refl, ap, ◌∙◌}
 use mathlib.Core.List.{◌∷◌, map}
@@ -38,13 +38,11 @@ loop-i-smaller c = omega arith
 pub loop-i-preserved : goal.loop-i-preserved
 loop-i-preserved c =
     let s = c in
-    let l = c.loop-i in
     let k = silhouette_long s.args.sil _ s.well_formed.1.1.0 in
     let n : s.args.sil.count ≤ length s.args.sil.seg = omega arith in
-    (omega arith, omega arith, omega arith, fill_put (omega arith) (ap (map (F.forwardStep (segs_in s.args.sil))) (range-turn l.i s.args.past c.loop-i-test.true) ∙ ap (λ x. x ∷ map (F.forwardStep (segs_in s.args.sil)) (range (l.i + 1) s.args.past)) (forward_at s.args.sil l.i n (omega arith))) l.invariant.3)
+    (omega arith, omega arith, omega arith, fill_put (omega arith) (ap (map (F.forward_step (segs_in s.args.sil))) (range-turn c.loop-i.i s.args.past c.loop-i-test.true) ∙ ap (λ x. x ∷ map (F.forward_step (segs_in s.args.sil)) (range (c.loop-i.i + 1) s.args.past)) (forward_at s.args.sil c.loop-i.i n (omega arith))) c.loop-i.invariant.3)
 
 pub returns : goal.returns
 returns c =
     let s = c in
-    let l = c.loop-i in
-    (omega arith, fill_end (ap (map (F.forwardStep (segs_in s.args.sil))) (range-done l.i s.args.past c.loop-i-test.false)) l.invariant.3)
+    (omega arith, fill_end (ap (map (F.forward_step (segs_in s.args.sil))) (range-done c.loop-i.i s.args.past c.loop-i-test.false)) c.loop-i.invariant.3)

@@ -17,7 +17,7 @@ last_seg-requires c =
 pub returns-then-k-gt0 : goal.returns-then-k-gt0
 returns-then-k-gt0 c =
     let s = c in
-    c.last_seg.ensures ∙ ap F.lastSeg (sym (run_at_lem s.args.ts (s.args.k - 1) (omega arith))) ∙ sym (cond_yes _ _ (lt-ltb 0 s.args.k c.if-k-gt0.true))
+    c.last_seg.ensures ∙ ap F.last_seg (sym (run_at_lem s.args.ts (s.args.k - 1) (omega arith))) ∙ sym (cond_yes _ _ (lt-ltb 0 s.args.k c.if-k-gt0.true))
 
 pub returns : goal.returns
 returns c = sym (cond_no _ _ (le-ltb 0 c.args.k c.if-k-gt0.false))

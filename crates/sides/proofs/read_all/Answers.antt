@@ -1,4 +1,3 @@
-use Prim.Native.Nat.{◌-◌}
 use native.Mathlib.Omega.{arith}
 use mathlib.Core.Path.{◌≡◌, sym, ap, ◌∙◌}
 use lib.ListN.{length, get_or}
@@ -27,19 +26,18 @@ pub read_range-f-requires : goal.read_range-f-requires
 read_range-f-requires c =
     let s = c in
     let z = c.no_features-f.ensures in
-    let l = c.loop-k in
     let ts = s.args.ts in
     let h = c.loop-k-test.true in
     let m = runs_long ts _ s.well_formed.0 in
-    let v = sized ts l.k h m s.requires.0 s.requires.1 in
-    let w = l.invariant.1 in
+    let v = sized ts c.loop-k.k h m s.requires.0 s.requires.1 in
+    let w = c.loop-k.invariant.1 in
     let x = w.more_faces in
     let y = w.more_discs in
-    let a = faces_upto (F.runsIn ts) l.k in
-    let b = features_upto (F.runsIn ts) l.k in
+    let a = faces_upto (F.runs_in ts) c.loop-k.k in
+    let b = features_upto (F.runs_in ts) c.loop-k.k in
     let n = runs_count ts (omega arith) in
-    let e : (F.run_at (F.runsIn ts) l.k).count ≡ (get_or ts.traversal l.k no_traversal).count = ap (λ t. t.count) (run_at_lem ts l.k h) in
-    let p = sum-part (λ j. (F.run_at (F.runsIn ts) j).count) l.k (length (F.runsIn ts)) (omega arith) in
+    let e : (F.run_at (F.runs_in ts) c.loop-k.k).count ≡ (get_or ts.traversal c.loop-k.k no_traversal).count = ap (λ t. t.count) (run_at_lem ts c.loop-k.k h) in
+    let p = sum-part (λ j. (F.run_at (F.runs_in ts) j).count) c.loop-k.k (length (F.runs_in ts)) (omega arith) in
     let q = s.requires.1.few in
     (v.0, v.1, omega arith, omega arith)
 
@@ -52,20 +50,18 @@ loop-k-smaller c = omega arith
 pub loop-k-preserved : goal.loop-k-preserved
 loop-k-preserved c =
     let s = c in
-    let l = c.loop-k in
     let ts = s.args.ts in
-    let e = sym (run_at_lem ts l.k c.loop-k-test.true) in
+    let e = sym (run_at_lem ts c.loop-k.k c.loop-k-test.true) in
     let a = c.last_before-last.ensures in
     let b = c.first_after-next.ensures in
-    (omega arith, grown-as (sym (join_more (F.facesOfRange (F.runsIn ts)) l.k)) (sym (join_more (F.discsOfRange (F.runsIn ts)) l.k)) (grown-then l.invariant.1 (grown-as (ap F.rangeFaces e) (ap (λ t. F.rangeDiscs t c.last_before-last.result c.first_after-next.result) e ∙ ap (λ x. F.rangeDiscs (F.run_at (F.runsIn ts) l.k) x c.first_after-next.result) a ∙ ap (F.rangeDiscs (F.run_at (F.runsIn ts) l.k) (F.lastBefore (F.runsIn ts) l.k)) b) c.read_range-f.ensures)))
+    (omega arith, grown-as (sym (join_more (F.faces_of_range (F.runs_in ts)) c.loop-k.k)) (sym (join_more (F.discs_of_range (F.runs_in ts)) c.loop-k.k)) (grown-then c.loop-k.invariant.1 (grown-as (ap F.range_faces e) (ap (λ t. F.range_discs t c.last_before-last.result c.first_after-next.result) e ∙ ap (λ x. F.range_discs (F.run_at (F.runs_in ts) c.loop-k.k) x c.first_after-next.result) a ∙ ap (F.range_discs (F.run_at (F.runs_in ts) c.loop-k.k) (F.last_before (F.runs_in ts) c.loop-k.k)) b) c.read_range-f.ensures)))
 
 pub returns : goal.returns
 unfolding faces_of discs_of
 returns c =
     let s = c in
-    let l = c.loop-k in
     let ts = s.args.ts in
     let m = runs_long ts _ s.well_formed.0 in
     let n = runs_count ts (omega arith) in
-    let e : l.k ≡ length (F.runsIn ts) = omega arith in
-    grown-all c.no_features-f.ensures (ap (λ k. join_in (F.facesOfRange (F.runsIn ts)) k 0) e) (ap (λ k. join_in (F.discsOfRange (F.runsIn ts)) k 0) e) l.invariant.1
+    let e : c.loop-k.k ≡ length (F.runs_in ts) = omega arith in
+    grown-all c.no_features-f.ensures (ap (λ k. join_in (F.faces_of_range (F.runs_in ts)) k 0) e) (ap (λ k. join_in (F.discs_of_range (F.runs_in ts)) k 0) e) c.loop-k.invariant.1

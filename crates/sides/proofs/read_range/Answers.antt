@@ -23,4 +23,4 @@ returns c =
     let s = c.args in
     let t = s.t in
     let o = c.choose_seg-first.ensures ∙ ap (λ b. cond b s.last t.before) (c.meet-joined.ensures ∙ ap (F.meets s.last) c.first_seg.ensures) in
-    grown-as (append-nil _) (ap (λ x. join_in (F.stepDiscs (F.run_of t) x) t.count 0 ++ F.placedDisc (Piece.Vertex t.part t.ends) c.end_disc.result) o ∙ ap (λ x. join_in (F.stepDiscs (F.run_of t) (F.opening (F.run_of t) s.last)) t.count 0 ++ x) c.end_disc.ensures) (grown-then c.read_steps-g.ensures c.add_disc.ensures)
+    grown-as (append-nil _) (ap (λ x. join_in (F.step_discs (F.run_of t) x) t.count 0 ++ F.placed_disc (Piece.Vertex t.part t.ends) c.end_disc.result) o ∙ ap (λ x. join_in (F.step_discs (F.run_of t) (F.opening (F.run_of t) s.last)) t.count 0 ++ x) c.end_disc.ensures) (grown-then c.read_steps-g.ensures c.add_disc.ensures)

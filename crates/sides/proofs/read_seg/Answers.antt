@@ -20,6 +20,6 @@ pub returns : goal.returns
 returns c =
     let s = c.args in
     grown-as
-    (append-nil _ ∙ append-nil _ ∙ ap (F.placedFace (Piece.Segment s.part s.named)) c.face.ensures)
-    (ap (λ m. F.placedDisc (Piece.Arc s.part s.named) m ++ F.placedDisc (Piece.Vertex s.part s.starts) c.corner.result) c.arc.ensures ∙ ap (λ m. F.placedDisc (Piece.Arc s.part s.named) (K.arcOf s.cut s.seg) ++ F.placedDisc (Piece.Vertex s.part s.starts) m) c.corner.ensures)
+    (append-nil _ ∙ append-nil _ ∙ ap (F.placed_face (Piece.Segment s.part s.named)) c.face.ensures)
+    (ap (λ m. F.placed_disc (Piece.Arc s.part s.named) m ++ F.placed_disc (Piece.Vertex s.part s.starts) c.corner.result) c.arc.ensures ∙ ap (λ m. F.placed_disc (Piece.Arc s.part s.named) (K.arc_of s.cut s.seg) ++ F.placed_disc (Piece.Vertex s.part s.starts) m) c.corner.ensures)
     (grown-then (grown-then c.add_face-g.ensures c.add_disc-h.ensures) c.add_disc.ensures)

@@ -1,4 +1,3 @@
-use Prim.Native.Nat.{◌-◌}
 use native.Mathlib.Omega.{arith}
 use mathlib.Core.Path.{◌≡◌, sym, ap, ◌∙◌}
 use lib.ListN.{get_or}
@@ -23,12 +22,11 @@ bounds-t-i c = omega arith
 pub read_step-g-requires : goal.read_step-g-requires
 read_step-g-requires c =
     let s = c in
-    let l = c.loop-i in
-    let w = l.invariant.1 in
+    let w = c.loop-i.invariant.1 in
     let x = w.more_faces in
     let y = w.more_discs in
-    let p = faces_few (F.run_of s.args.t) l.i in
-    let q = steps_few (F.run_of s.args.t) s.args.first l.i in
+    let p = faces_few (F.run_of s.args.t) c.loop-i.i in
+    let q = steps_few (F.run_of s.args.t) s.args.first c.loop-i.i in
     omega arith
 
 pub overflow_add-i : goal.overflow_add-i
@@ -41,15 +39,13 @@ pub loop-i-preserved : goal.loop-i-preserved
 unfolding step_discs
 loop-i-preserved c =
     let s = c in
-    let l = c.loop-i in
     let t = s.args.t in
-    let e = sym (step-at t l.i c.loop-i-test.true) in
-    (omega arith, grown-as (sym (join_more (step_faces (F.run_of t)) l.i)) (sym (join_more (F.stepDiscs (F.run_of t) s.args.first) l.i)) (grown-then l.invariant.1 (grown-as (ap (F.facesAt t.part) e) (ap (λ p. F.discsAt t.part t.cut p (get_or t.steps l.i F.noStep)) c.previous_at-p.ensures ∙ ap (F.discsAt t.part t.cut (F.previousAt (F.run_of t) s.args.first l.i)) e) c.Read-step.ensures)))
+    let e = sym (step-at t c.loop-i.i c.loop-i-test.true) in
+    (omega arith, grown-as (sym (join_more (step_faces (F.run_of t)) c.loop-i.i)) (sym (join_more (F.step_discs (F.run_of t) s.args.first) c.loop-i.i)) (grown-then c.loop-i.invariant.1 (grown-as (ap (F.faces_at t.part) e) (ap (λ p. F.discs_at t.part t.cut p (get_or t.steps c.loop-i.i F.no_step)) c.previous_at-p.ensures ∙ ap (F.discs_at t.part t.cut (F.previous_at (F.run_of t) s.args.first c.loop-i.i)) e) c.read_step-g.ensures)))
 
 pub returns : goal.returns
 unfolding range_faces
 returns c =
     let s = c in
-    let l = c.loop-i in
-    let e : l.i ≡ s.args.t.count = omega arith in
-    grown-as (ap (λ k. join_in (step_faces (F.run_of s.args.t)) k 0) e) (ap (λ k. join_in (F.stepDiscs (F.run_of s.args.t) s.args.first) k 0) e) l.invariant.1
+    let e : c.loop-i.i ≡ s.args.t.count = omega arith in
+    grown-as (ap (λ k. join_in (step_faces (F.run_of s.args.t)) k 0) e) (ap (λ k. join_in (F.step_discs (F.run_of s.args.t) s.args.first) k 0) e) c.loop-i.invariant.1

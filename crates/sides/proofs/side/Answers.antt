@@ -35,9 +35,8 @@ pub returns : goal.returns
 unfolding side_of
 returns c =
     let s = c.args in
-    let first = (F.firstRange s.u).part in
+    let first = (F.first_range s.u).part in
     let body = (part_at s.ps first).body in
-    let t = c.traversals_of in
-    let ts = F.runsIn t.result in
-    side-by body (Piece.Center first) (F.facesOf ts) (F.discsOf ts) c.read_all-f.ensures c.center_at.ensures
-    ∙ ap (λ l. F.sideFrom body (F.facesOf l) (F.discsOf l) (Piece.Center first) (F.centerAt s.ps s.o s.u s.wanted)) t.ensures.1
+    let ts = F.runs_in c.traversals_of.result in
+    side-by body (Piece.Center first) (F.faces_of ts) (F.discs_of ts) c.read_all-f.ensures c.center_at.ensures
+    ∙ ap (λ l. F.side_from body (F.faces_of l) (F.discs_of l) (Piece.Center first) (F.center_at s.ps s.o s.u s.wanted)) c.traversals_of.ensures.1

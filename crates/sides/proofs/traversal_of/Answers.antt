@@ -18,4 +18,4 @@ returns c =
     let s = c in
     let k = outlines-long s.args.o _ s.well_formed.1.0 in
     let r = s.args.range in
-    c.traverse.ensures ∙ ap (λ l. F.traverseOf r l (part_at s.args.ps r.part).role) (read_segs s.args.ps s.args.o k s.requires.0 r s.requires.1 c.silhouette_at-sil.ensures)
+    c.traverse.ensures ∙ ap (λ l. F.traverse_of r l (part_at s.args.ps r.part).role) (read_segs s.args.ps s.args.o k s.requires.0 r s.requires.1 c.silhouette_at-sil.ensures)

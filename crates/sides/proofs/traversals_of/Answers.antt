@@ -1,4 +1,3 @@
-use Prim.Native.Nat.{◌-◌}
 use native.Mathlib.Omega.{arith}
 use mathlib.Core.Path.{◌≡◌, refl, sym, ap, ◌∙◌}
 use mathlib.Core.List.{map}
@@ -43,15 +42,13 @@ loop-k-smaller c = omega arith
 pub loop-k-preserved : goal.loop-k-preserved
 loop-k-preserved c =
     let s = c in
-    let l = c.loop-k in
     let z = ranges_long s.args.u _ s.well_formed.1.1.0 in
     let b = s.requires.1.ranges in
-    let m = l.invariant.1 in
-    (omega arith, length-set l.all l.k _ ∙ m, runs_more (F.traversalOf s.args.ps s.args.o) l.all s.args.u.range l.k _ (omega arith) (omega arith) c.traversal_of.ensures l.invariant.2)
+    let m = c.loop-k.invariant.1 in
+    (omega arith, length-set c.loop-k.all c.loop-k.k _ ∙ m, runs_more (F.traversal_of s.args.ps s.args.o) c.loop-k.all s.args.u.range c.loop-k.k _ (omega arith) (omega arith) c.traversal_of.ensures c.loop-k.invariant.2)
 
 pub returns : goal.returns
 returns c =
     let s = c in
-    let l = c.loop-k in
-    let e : s.args.u.count ≡ l.k = omega arith in
-    (refl, ap (λ n. map F.run_of (take n l.all)) e ∙ l.invariant.2 ∙ ap (λ n. map (F.traversalOf s.args.ps s.args.o) (take n s.args.u.range)) (sym e))
+    let e : s.args.u.count ≡ c.loop-k.k = omega arith in
+    (refl, ap (λ n. map F.run_of (take n c.loop-k.all)) e ∙ c.loop-k.invariant.2 ∙ ap (λ n. map (F.traversal_of s.args.ps s.args.o) (take n s.args.u.range)) (sym e))

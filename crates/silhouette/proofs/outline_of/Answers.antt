@@ -15,7 +15,7 @@ bounds-ps-i c = let h = c.requires.0.count in omega arith
 pub segs_from-requires : goal.segs_from-requires
 segs_from-requires c =
     let s = c in
-    let e = c.start_of_lem.ensures in
+    let e = c.start_of-at.ensures in
     let h = s.requires.0.all s.args.i s.requires.1 in
     let n = s.requires.0.each s.args.i s.requires.1 in
     (omega arith, n)
@@ -24,4 +24,4 @@ pub returns : goal.returns
 unfolding outline_of
 returns c =
     let s = c in
-    (c.segs_from.ensures.0, c.segs_from.ensures.1 ∙ ap (λ k. map seg_of (take (segs_of s.args.ps s.args.i) (drop k s.args.o.seg))) c.start_of_lem.ensures)
+    (c.segs_from.ensures.0, c.segs_from.ensures.1 ∙ ap (λ k. map seg_of (take (segs_of s.args.ps s.args.i) (drop k s.args.o.seg))) c.start_of-at.ensures)

@@ -7,7 +7,7 @@ pub start_of-requires : goal.start_of-requires
 start_of-requires c = part_of _ _ (sym c.is_part.ensures ∙ c.if-is_part.true)
 
 pub returns-then-is_part : goal.returns-then-is_part
-returns-then-is_part c = c.start_of_lem.ensures ∙ sym (cond_yes _ _ (sym c.is_part.ensures ∙ c.if-is_part.true))
+returns-then-is_part c = c.start_of.ensures ∙ sym (cond_yes _ _ (sym c.is_part.ensures ∙ c.if-is_part.true))
 
 pub returns : goal.returns
 returns c = sym (cond_no _ _ (sym c.is_part.ensures ∙ c.if-is_part.false))

@@ -43,54 +43,48 @@ returns-in-Accepted c =
     let m = s.m in
     let e : check_of m ≡ Accepted = sym c.check-c.ensures ∙ c.in-Accepted.is in
     let a = c.put_all_parts.ensures in
-    let b = c.put_pairs.ensures in (
-      sym e,
-      (
-        (
+    let b = c.put_pairs.ensures in
+    record {
+      value = sym e;
+      drawn_after = (
           rows_written s.drawn.now (drawn_table m.parts m.outlines) e a.0,
           rows_written s.sampled.now (sampled_table m.parts m.outlines) e a.1,
           rows_written s.parts.now (part_table m.parts m.outlines) e a.2,
-        ),
-        (
-          (
+        );
+      faces_after = (
             rows_written s.faces.now (face_table m) e b.0,
             rows_written s.fnames.now (face_name_table m) e b.1,
             rows_written s.discs.now (disc_table m) e b.2,
             rows_written s.dnames.now (disc_name_table m) e b.3,
-          ),
-          (
+          );
+      sides_after = (
             rows_written s.sides.now (side_table m) e b.4,
             rows_written s.centers.now (center_table m) e b.5,
             rows_written s.choices.now (choice_table m) e b.6,
-          ),
-        ),
-      ),
-    )
+          );
+    }
 
 pub returns-in-Refused : goal.returns-in-Refused
 returns-in-Refused c =
     let s = c.args in
     let m = s.m in
-    let e = sym c.check-c.ensures ∙ c.in-Refused.is in (
-      sym e,
-      (
-        (
+    let e = sym c.check-c.ensures ∙ c.in-Refused.is in
+    record {
+      value = sym e;
+      drawn_after = (
           rows-kept s.drawn.now (drawn_table m.parts m.outlines) e,
           rows-kept s.sampled.now (sampled_table m.parts m.outlines) e,
           rows-kept s.parts.now (part_table m.parts m.outlines) e,
-        ),
-        (
-          (
+        );
+      faces_after = (
             rows-kept s.faces.now (face_table m) e,
             rows-kept s.fnames.now (face_name_table m) e,
             rows-kept s.discs.now (disc_table m) e,
             rows-kept s.dnames.now (disc_name_table m) e,
-          ),
-          (
+          );
+      sides_after = (
             rows-kept s.sides.now (side_table m) e,
             rows-kept s.centers.now (center_table m) e,
             rows-kept s.choices.now (choice_table m) e,
-          ),
-        ),
-      ),
-    )
+          );
+    }

@@ -11,7 +11,7 @@ slice_bounds-mouths-end c =
     let counted = c.segs_counted.ensures in
     let put = c.put_segs.ensures in
     let total = s.requires.0.total in
-    mouths-within s.args.ps c.put_segs.new.0 s.requires.0 (segs_within s.args.ps s.args.o long counted put s.requires.0) quads (omega (arith, total)) c.draw_mouths-n.ensures
+    mouths-within s.args.ps c.put_segs.new.out s.requires.0 (segs_within s.args.ps s.args.o long counted put s.requires.0) quads (omega (arith, total)) c.draw_mouths-n.ensures
 
 pub slice_bounds-put_parts-end-2 : goal.slice_bounds-put_parts-end-2
 slice_bounds-put_parts-end-2 c =
@@ -20,7 +20,7 @@ slice_bounds-put_parts-end-2 c =
     let counted = c.segs_counted.ensures in
     let put = c.put_segs.ensures in
     let total = s.requires.0.total in
-    mouths-counted s.args.ps c.put_segs.new.0 s.requires.0 (segs_within s.args.ps s.args.o long counted put s.requires.0) quads (omega (arith, total)) c.draw_mouths-n.ensures
+    mouths-counted s.args.ps c.put_segs.new.out s.requires.0 (segs_within s.args.ps s.args.o long counted put s.requires.0) quads (omega (arith, total)) c.draw_mouths-n.ensures
 
 pub put_parts-requires : goal.put_parts-requires
 put_parts-requires c =
@@ -29,7 +29,7 @@ put_parts-requires c =
     let counted = c.segs_counted.ensures in
     let put = c.put_segs.ensures in
     let total = s.requires.0.total in
-    (s.requires.0, segs_within s.args.ps s.args.o long counted put s.requires.0, mouths-read s.args.ps c.put_segs.new.0 s.requires.0 (segs_within s.args.ps s.args.o long counted put s.requires.0) quads (omega (arith, total)) c.draw_mouths-n.ensures, s.requires.1, s.requires.2, s.requires.3)
+    (s.requires.0, segs_within s.args.ps s.args.o long counted put s.requires.0, mouths-read s.args.ps c.put_segs.new.out s.requires.0 (segs_within s.args.ps s.args.o long counted put s.requires.0) quads (omega (arith, total)) c.draw_mouths-n.ensures, s.requires.1, s.requires.2, s.requires.3)
 
 pub returns : goal.returns
 returns c =

@@ -28,15 +28,13 @@ loop-k-smaller c = omega arith
 
 pub loop-k-preserved : goal.loop-k-preserved
 loop-k-preserved c =
-    let l = c.loop-k in
     let s = c in
-    (omega arith, omega arith, puts (line-turn self (on_line s.args.a s.args.b) l.k _ (omega arith) c.on_line-p.ensures) l.invariant.2)
+    (omega arith, omega arith, puts (line-turn self (on_line s.args.a s.args.b) c.loop-k.k _ (omega arith) c.on_line-p.ensures) c.loop-k.invariant.2)
 
 pub shape_of-out : goal.shape_of-out
 shape_of-out c = c.loop-k.invariant.2.long
 
 pub returns : goal.returns
 returns c =
-    let l = c.loop-k in
     let s = c in
-    as_is _ _ (list_in (on_line s.args.a s.args.b) 17 0) (omega arith, ends (line-done self (on_line s.args.a s.args.b) l.k (omega arith)) l.invariant.2)
+    as_is _ _ (list_in (on_line s.args.a s.args.b) 17 0) (omega arith, ends (line-done self (on_line s.args.a s.args.b) c.loop-k.k (omega arith)) c.loop-k.invariant.2)

@@ -18,17 +18,14 @@ returns c =
     let o = s.args.o in
     let p = s.args.p in
     let i = s.args.i in
-    let u = c.put_side in
-    let v = c.put_side-2 in
-    let w = c.put_sides in
     let e = features_are ps o p s.requires.1 c.pair_features_at-f.ensures in
     let n = faces_a ps o p in
     let d = discs_a ps o p in (
-      pair-join (λ q. face_row q.face) (λ t. t.face) s.args.faces.now e u.ensures.0 v.ensures.0 (omega arith) (omega (arith, n)),
-      pair-join (λ q. piece_row q.piece) (λ t. t.face) s.args.fnames.now e u.ensures.1 v.ensures.1 (omega arith) (omega (arith, n)),
-      pair-join (λ q. disc_row q.disc) (λ t. t.disc) s.args.discs.now e u.ensures.2 v.ensures.2 (omega arith) (omega (arith, d)),
-      pair-join (λ q. piece_row q.piece) (λ t. t.disc) s.args.dnames.now e u.ensures.3 v.ensures.3 (omega arith) (omega (arith, d)),
-      w.ensures.0 ∙ ap (λ (f : PairFeatures). sets s.args.sides.now (2 * i) (side_row (2 * i) p.geometry f.a ∷ side_row (2 * i + 1) p.geometry f.b ∷ [])) e,
-      w.ensures.1 ∙ ap (λ (f : PairFeatures). sets s.args.centers.now (2 * i) (row_of f.a.center.point ∷ row_of f.b.center.point ∷ [])) e,
+      pair-join (λ q. face_row q.face) (λ t. t.face) s.args.faces.now e c.put_side.ensures.0 c.put_side-2.ensures.0 (omega arith) (omega (arith, n)),
+      pair-join (λ q. piece_row q.piece) (λ t. t.face) s.args.fnames.now e c.put_side.ensures.1 c.put_side-2.ensures.1 (omega arith) (omega (arith, n)),
+      pair-join (λ q. disc_row q.disc) (λ t. t.disc) s.args.discs.now e c.put_side.ensures.2 c.put_side-2.ensures.2 (omega arith) (omega (arith, d)),
+      pair-join (λ q. piece_row q.piece) (λ t. t.disc) s.args.dnames.now e c.put_side.ensures.3 c.put_side-2.ensures.3 (omega arith) (omega (arith, d)),
+      c.put_sides.ensures.0 ∙ ap (λ (f : PairFeatures). sets s.args.sides.now (2 * i) (side_row (2 * i) p.geometry f.a ∷ side_row (2 * i + 1) p.geometry f.b ∷ [])) e,
+      c.put_sides.ensures.1 ∙ ap (λ (f : PairFeatures). sets s.args.centers.now (2 * i) (row_of f.a.center.point ∷ row_of f.b.center.point ∷ [])) e,
       c.put_choices.ensures,
     )

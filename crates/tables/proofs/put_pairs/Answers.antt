@@ -19,18 +19,17 @@ bounds-pairs-i c = let f = (accepted-few c.args.m c.requires.0).pairs.count in o
 
 pub put_pair-requires : goal.put_pair-requires
 put_pair-requires c =
-    let l = c.loop-i in
     let s = c in
     let few = (accepted-few s.args.m s.requires.0).pairs.count in
-    let h : l.i < s.args.m.pairs.count = c.loop-i-test.true in
-    let r0 : 384 ≤ length l.faces = omega (arith, l.invariant.1.long, s.requires.1) in
-    let r1 : 384 ≤ length l.fnames = omega (arith, l.invariant.2.long, s.requires.2) in
-    let r2 : 896 ≤ length l.discs = omega (arith, l.invariant.3.long, s.requires.3) in
-    let r3 : 896 ≤ length l.dnames = omega (arith, l.invariant.4.long, s.requires.4) in
-    let r4 : 32 ≤ length l.sides = omega (arith, l.invariant.5.long, s.requires.5) in
-    let r5 : 32 ≤ length l.centers = omega (arith, l.invariant.6.long, s.requires.6) in
-    let r6 : 64 ≤ length l.choices = omega (arith, l.invariant.7.long, s.requires.7) in
-    (omega (arith, few, h), accepted-pair-drawn s.args.m s.requires.0 l.i h, r0, r1, r2, r3, r4, r5, r6)
+    let h : c.loop-i.i < s.args.m.pairs.count = c.loop-i-test.true in
+    let r0 : 384 ≤ length c.loop-i.faces = omega (arith, c.loop-i.invariant.1.long, s.requires.1) in
+    let r1 : 384 ≤ length c.loop-i.fnames = omega (arith, c.loop-i.invariant.2.long, s.requires.2) in
+    let r2 : 896 ≤ length c.loop-i.discs = omega (arith, c.loop-i.invariant.3.long, s.requires.3) in
+    let r3 : 896 ≤ length c.loop-i.dnames = omega (arith, c.loop-i.invariant.4.long, s.requires.4) in
+    let r4 : 32 ≤ length c.loop-i.sides = omega (arith, c.loop-i.invariant.5.long, s.requires.5) in
+    let r5 : 32 ≤ length c.loop-i.centers = omega (arith, c.loop-i.invariant.6.long, s.requires.6) in
+    let r6 : 64 ≤ length c.loop-i.choices = omega (arith, c.loop-i.invariant.7.long, s.requires.7) in
+    (omega (arith, few, h), accepted-pair-drawn s.args.m s.requires.0 c.loop-i.i h, r0, r1, r2, r3, r4, r5, r6)
 
 pub overflow_add-i : goal.overflow_add-i
 overflow_add-i c = let f = (accepted-few c.args.m c.requires.0).pairs.count in omega arith
@@ -40,13 +39,12 @@ loop-i-smaller c = omega arith
 
 pub loop-i-preserved : goal.loop-i-preserved
 loop-i-preserved c =
-    let l = c.loop-i in
     let s = c in
     let ps = s.args.m.parts in
     let o = s.args.m.outlines in
-    let p = pair_at s.args.m.pairs l.i in
-    let h : l.i < s.args.m.pairs.count = c.loop-i-test.true in
-    (omega arith, table_next _ _ h c.put_pair.ensures.0 (omega (arith, pair-faces ps o p)) l.invariant.1, table_next _ _ h c.put_pair.ensures.1 (omega (arith, pair-face-names ps o p)) l.invariant.2, table_next _ _ h c.put_pair.ensures.2 (omega (arith, pair-discs ps o p)) l.invariant.3, table_next _ _ h c.put_pair.ensures.3 (omega (arith, pair-disc_names ps o p)) l.invariant.4, table_next _ _ h c.put_pair.ensures.4 (omega arith) l.invariant.5, table_next _ _ h c.put_pair.ensures.5 (omega arith) l.invariant.6, table_next _ _ h c.put_pair.ensures.6 (omega arith) l.invariant.7)
+    let p = pair_at s.args.m.pairs c.loop-i.i in
+    let h : c.loop-i.i < s.args.m.pairs.count = c.loop-i-test.true in
+    (omega arith, table_next _ _ h c.put_pair.ensures.0 (omega (arith, pair-faces ps o p)) c.loop-i.invariant.1, table_next _ _ h c.put_pair.ensures.1 (omega (arith, pair-face-names ps o p)) c.loop-i.invariant.2, table_next _ _ h c.put_pair.ensures.2 (omega (arith, pair-discs ps o p)) c.loop-i.invariant.3, table_next _ _ h c.put_pair.ensures.3 (omega (arith, pair-disc_names ps o p)) c.loop-i.invariant.4, table_next _ _ h c.put_pair.ensures.4 (omega arith) c.loop-i.invariant.5, table_next _ _ h c.put_pair.ensures.5 (omega arith) c.loop-i.invariant.6, table_next _ _ h c.put_pair.ensures.6 (omega arith) c.loop-i.invariant.7)
 
 pub shape_of-faces : goal.shape_of-faces
 shape_of-faces c = c.loop-i.invariant.1.long
@@ -71,6 +69,5 @@ shape_of-choices c = c.loop-i.invariant.7.long
 
 pub returns : goal.returns
 returns c =
-    let l = c.loop-i in
-    let h : c.args.m.pairs.count ≤ l.i = omega arith in
-    (table_end _ _ h l.invariant.1, table_end _ _ h l.invariant.2, table_end _ _ h l.invariant.3, table_end _ _ h l.invariant.4, table_end _ _ h l.invariant.5, table_end _ _ h l.invariant.6, table_end _ _ h l.invariant.7)
+    let h : c.args.m.pairs.count ≤ c.loop-i.i = omega arith in
+    (table_end _ _ h c.loop-i.invariant.1, table_end _ _ h c.loop-i.invariant.2, table_end _ _ h c.loop-i.invariant.3, table_end _ _ h c.loop-i.invariant.4, table_end _ _ h c.loop-i.invariant.5, table_end _ _ h c.loop-i.invariant.6, table_end _ _ h c.loop-i.invariant.7)

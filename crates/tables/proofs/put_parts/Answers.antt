@@ -20,10 +20,9 @@ bounds-ps-i c = let h = c.requires.0.count in omega arith
 pub put_part_points-to-requires : goal.put_part_points-to-requires
 put_part_points-to-requires c =
     let s = c in
-    let l = c.loop-i in
-    let d = drawn-long _ _ _ _ _ l.invariant.1 in
-    let e = sampled_long _ _ _ _ _ l.invariant.1 in
-    (s.requires.0, omega arith, l.invariant.0, s.requires.1, s.requires.2, l.invariant.1.at_drawn, l.invariant.1.at_sampled, omega arith, omega arith)
+    let d = drawn-long _ _ _ _ _ c.loop-i.invariant.1 in
+    let e = sampled_long _ _ _ _ _ c.loop-i.invariant.1 in
+    (s.requires.0, omega arith, c.loop-i.invariant.0, s.requires.1, s.requires.2, c.loop-i.invariant.1.at_drawn, c.loop-i.invariant.1.at_sampled, omega arith, omega arith)
 
 pub overflow_sub-parts : goal.overflow_sub-parts
 overflow_sub-parts c = let e = c.put_part_points-to.ensures.0 in omega arith
@@ -45,9 +44,8 @@ bounds-parts-i c =
 
 pub overflow_add-first : goal.overflow_add-first
 overflow_add-first c =
-    let l = c.loop-i in
-    let h = c.requires.0.all l.i c.loop-i-test.true in
-    let e = l.invariant.0 in
+    let h = c.requires.0.all c.loop-i.i c.loop-i-test.true in
+    let e = c.loop-i.invariant.0 in
     omega arith
 
 pub overflow_add-i : goal.overflow_add-i
@@ -58,10 +56,9 @@ loop-i-smaller c = omega arith
 
 pub loop-i-preserved : goal.loop-i-preserved
 loop-i-preserved c =
-    let l = c.loop-i in
     let ps = c.args.ps in (
-      ap (λ (n : ℕ). n + segs_of ps l.i) l.invariant.0 ∙ sym (sum_more (segs_of ps) l.i),
-      puts-more _ _ _ _ _ l.invariant.1 c.loop-i-test.true c.put_part_points-to.ensures,
+      ap (λ (n : ℕ). n + segs_of ps c.loop-i.i) c.loop-i.invariant.0 ∙ sym (sum_more (segs_of ps) c.loop-i.i),
+      puts-more _ _ _ _ _ c.loop-i.invariant.1 c.loop-i-test.true c.put_part_points-to.ensures,
     )
 
 pub shape_of-drawn : goal.shape_of-drawn

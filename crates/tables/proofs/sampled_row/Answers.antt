@@ -26,12 +26,10 @@ loop-i-smaller c = omega arith
 
 pub loop-i-preserved : goal.loop-i-preserved
 loop-i-preserved c =
-    let l = c.loop-i in
     let s = c in
-    (omega arith, fill_put (omega arith) (turn-as (sampled_at s.args.ps s.args.u) 32 l.i (omega arith) (sampled_at_lem s.args.ps s.args.u l.i c.one_if.ensures c.is_own.ensures c.is_sampled.ensures)) l.invariant.1)
+    (omega arith, fill_put (omega arith) (turn-as (sampled_at s.args.ps s.args.u) 32 c.loop-i.i (omega arith) (sampled_at_lem s.args.ps s.args.u c.loop-i.i c.one_if.ensures c.is_own.ensures c.is_sampled.ensures)) c.loop-i.invariant.1)
 
 pub returns : goal.returns
 returns c =
-    let l = c.loop-i in
     let s = c in
-    filled-whole (let h : 32 ≤ l.i = omega arith in h) (list_done (sampled_at s.args.ps s.args.u) 32 l.i (omega arith)) l.invariant.1
+    filled-whole (let h : 32 ≤ c.loop-i.i = omega arith in h) (list_done (sampled_at s.args.ps s.args.u) 32 c.loop-i.i (omega arith)) c.loop-i.invariant.1

@@ -28,12 +28,11 @@ loop-i-smaller-then-best-n c = omega arith
 pub loop-i-preserved-then-best-n : goal.loop-i-preserved-then-best-n
 loop-i-preserved-then-best-n c =
     let a = c.args in
-    let loop = c.loop-i in
     let h = c.loop-i-test.true in
     let f = placed_face a.faces.now a.names.now a.first in
-    let g = part-read f a.n (λ x. x.face) no_face loop.i h c.face_at-f.ensures in
-    let meets = ap (λ x. any (meets_row x) (take a.m a.ends.now)) (sym g) ∙ sym c.Meets-any.ensures ∙ c.if-meets_any.true in
-    walked_takes loop.invariant (list_long f a.n) h meets (c.score-x.ensures ∙ ap (score_of a.k) g) c.total_order.ensures c.if-best-n.true
+    let g = part-read f a.n (λ x. x.face) no_face c.loop-i.i h c.face_at-f.ensures in
+    let meets = ap (λ x. any (meets_row x) (take a.m a.ends.now)) (sym g) ∙ sym c.meets_any.ensures ∙ c.if-meets_any.true in
+    walked_takes c.loop-i.invariant (list_long f a.n) h meets (c.score-x.ensures ∙ ap (score_of a.k) g) c.total_order.ensures c.if-best-n.true
 
 pub loop-i-smaller-else-best-n : goal.loop-i-smaller-else-best-n
 loop-i-smaller-else-best-n c = omega arith
@@ -41,12 +40,11 @@ loop-i-smaller-else-best-n c = omega arith
 pub loop-i-preserved-else-best-n : goal.loop-i-preserved-else-best-n
 loop-i-preserved-else-best-n c =
     let a = c.args in
-    let loop = c.loop-i in
     let h = c.loop-i-test.true in
     let f = placed_face a.faces.now a.names.now a.first in
-    let g = part-read f a.n (λ x. x.face) no_face loop.i h c.face_at-f.ensures in
-    let meets = ap (λ x. any (meets_row x) (take a.m a.ends.now)) (sym g) ∙ sym c.Meets-any.ensures ∙ c.if-meets_any.true in
-    walked_stays loop.invariant (list_long f a.n) h meets (c.score-x.ensures ∙ ap (score_of a.k) g) c.total_order.ensures c.if-best-n.false
+    let g = part-read f a.n (λ x. x.face) no_face c.loop-i.i h c.face_at-f.ensures in
+    let meets = ap (λ x. any (meets_row x) (take a.m a.ends.now)) (sym g) ∙ sym c.meets_any.ensures ∙ c.if-meets_any.true in
+    walked_stays c.loop-i.invariant (list_long f a.n) h meets (c.score-x.ensures ∙ ap (score_of a.k) g) c.total_order.ensures c.if-best-n.false
 
 pub loop-i-smaller : goal.loop-i-smaller
 loop-i-smaller c = omega arith
@@ -54,12 +52,11 @@ loop-i-smaller c = omega arith
 pub loop-i-preserved : goal.loop-i-preserved
 loop-i-preserved c =
     let a = c.args in
-    let loop = c.loop-i in
     let h = c.loop-i-test.true in
     let f = placed_face a.faces.now a.names.now a.first in
-    let g = part-read f a.n (λ x. x.face) no_face loop.i h c.face_at-f.ensures in
-    let meets = ap (λ x. any (meets_row x) (take a.m a.ends.now)) (sym g) ∙ sym c.Meets-any.ensures ∙ c.if-meets_any.false in
-    walked_skips loop.invariant (list_long f a.n) h meets
+    let g = part-read f a.n (λ x. x.face) no_face c.loop-i.i h c.face_at-f.ensures in
+    let meets = ap (λ x. any (meets_row x) (take a.m a.ends.now)) (sym g) ∙ sym c.meets_any.ensures ∙ c.if-meets_any.false in
+    walked_skips c.loop-i.invariant (list_long f a.n) h meets
 
 pub overflow_add-first-then-best-n-2 : goal.overflow_add-first-then-best-n-2
 overflow_add-first-then-best-n-2 c = let p = c.requires in omega arith
@@ -67,11 +64,10 @@ overflow_add-first-then-best-n-2 c = let p = c.requires in omega arith
 pub returns-then-best-n-2 : goal.returns-then-best-n-2
 returns-then-best-n-2 c =
     let a = c.args in
-    let loop = c.loop-i in
     let h = c.if-best-n-2.true in
     let f = placed_face a.faces.now a.names.now a.first in
-    ap SomeFace (part-read f a.n (λ x. x.face) no_face loop.best h c.face_at.ensures)
-    ∙ walked_some loop.invariant (list_long f a.n) (list_all f a.n) c.loop-i-test.false h
+    ap SomeFace (part-read f a.n (λ x. x.face) no_face c.loop-i.best h c.face_at.ensures)
+    ∙ walked_some c.loop-i.invariant (list_long f a.n) (list_all f a.n) c.loop-i-test.false h
 
 pub returns : goal.returns
 returns c =

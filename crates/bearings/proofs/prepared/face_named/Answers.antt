@@ -20,12 +20,11 @@ overflow_add-i c = let p = c.requires in omega arith
 pub returns-then-same_piece : goal.returns-then-same_piece
 returns-then-same_piece c =
     let a = c.args in
-    let loop = c.loop-i in
     let h = c.loop-i-test.true in
     let f = placed_face a.faces.now a.names.now a.first in
-    let same = same_read f a.n a.piece (λ x. x.piece) no_face loop.i h c.piece_at.ensures c.same_piece.ensures c.if-same_piece.true in
-    ap SomeFace (part-read f a.n (λ x. x.face) no_face loop.i h c.face_at.ensures)
-    ∙ sym (named-yes a.piece _ a.n loop.i (list_long f a.n) no_face h same) ∙ loop.invariant
+    let same = same_read f a.n a.piece (λ x. x.piece) no_face c.loop-i.i h c.piece_at.ensures c.same_piece.ensures c.if-same_piece.true in
+    ap SomeFace (part-read f a.n (λ x. x.face) no_face c.loop-i.i h c.face_at.ensures)
+    ∙ sym (named-yes a.piece _ a.n c.loop-i.i (list_long f a.n) no_face h same) ∙ c.loop-i.invariant
 
 pub loop-i-smaller : goal.loop-i-smaller
 loop-i-smaller c = omega arith
@@ -33,15 +32,13 @@ loop-i-smaller c = omega arith
 pub loop-i-preserved : goal.loop-i-preserved
 loop-i-preserved c =
     let a = c.args in
-    let loop = c.loop-i in
     let h = c.loop-i-test.true in
     let f = placed_face a.faces.now a.names.now a.first in
-    let same = same_read f a.n a.piece (λ x. x.piece) no_face loop.i h c.piece_at.ensures c.same_piece.ensures c.if-same_piece.false in
-    sym (named-no a.piece _ a.n loop.i (list_long f a.n) no_face h same) ∙ loop.invariant
+    let same = same_read f a.n a.piece (λ x. x.piece) no_face c.loop-i.i h c.piece_at.ensures c.same_piece.ensures c.if-same_piece.false in
+    sym (named-no a.piece _ a.n c.loop-i.i (list_long f a.n) no_face h same) ∙ c.loop-i.invariant
 
 pub returns : goal.returns
 returns c =
     let a = c.args in
-    let loop = c.loop-i in
     let f = placed_face a.faces.now a.names.now a.first in
-    sym (named_none a.piece _ a.n loop.i (list_long f a.n) c.loop-i-test.false) ∙ loop.invariant
+    sym (named_none a.piece _ a.n c.loop-i.i (list_long f a.n) c.loop-i-test.false) ∙ c.loop-i.invariant

@@ -19,12 +19,11 @@ overflow_add-i c = let p = c.requires in omega arith
 pub returns-then-same_piece : goal.returns-then-same_piece
 returns-then-same_piece c =
     let a = c.args in
-    let loop = c.loop-i in
     let h = c.loop-i-test.true in
     let f = placed_disc a.discs.now a.names.now a.first in
-    let same = same_read f a.n a.piece (λ x. x.piece) no_disc loop.i h c.piece_at.ensures c.same_piece.ensures c.if-same_piece.true in
-    let d = part-read f a.n (λ x. x.disc) no_disc loop.i h c.disc_at-d.ensures in
-    sym (first-yes a.piece _ a.n loop.i (list_long f a.n) no_disc h same (c.on_circle.ensures ∙ ap start_of_disc d)) ∙ loop.invariant
+    let same = same_read f a.n a.piece (λ x. x.piece) no_disc c.loop-i.i h c.piece_at.ensures c.same_piece.ensures c.if-same_piece.true in
+    let d = part-read f a.n (λ x. x.disc) no_disc c.loop-i.i h c.disc_at-d.ensures in
+    sym (first-yes a.piece _ a.n c.loop-i.i (list_long f a.n) no_disc h same (c.on_circle.ensures ∙ ap start_of_disc d)) ∙ c.loop-i.invariant
 
 pub loop-i-smaller : goal.loop-i-smaller
 loop-i-smaller c = omega arith
@@ -32,15 +31,13 @@ loop-i-smaller c = omega arith
 pub loop-i-preserved : goal.loop-i-preserved
 loop-i-preserved c =
     let a = c.args in
-    let loop = c.loop-i in
     let h = c.loop-i-test.true in
     let f = placed_disc a.discs.now a.names.now a.first in
-    let same = same_read f a.n a.piece (λ x. x.piece) no_disc loop.i h c.piece_at.ensures c.same_piece.ensures c.if-same_piece.false in
-    sym (first-no a.piece _ a.n loop.i (list_long f a.n) no_disc h same) ∙ loop.invariant
+    let same = same_read f a.n a.piece (λ x. x.piece) no_disc c.loop-i.i h c.piece_at.ensures c.same_piece.ensures c.if-same_piece.false in
+    sym (first-no a.piece _ a.n c.loop-i.i (list_long f a.n) no_disc h same) ∙ c.loop-i.invariant
 
 pub returns : goal.returns
 returns c =
     let a = c.args in
-    let loop = c.loop-i in
     let f = placed_disc a.discs.now a.names.now a.first in
-    sym (first-none a.piece _ a.n loop.i (list_long f a.n) c.loop-i-test.false) ∙ loop.invariant
+    sym (first-none a.piece _ a.n c.loop-i.i (list_long f a.n) c.loop-i-test.false) ∙ c.loop-i.invariant

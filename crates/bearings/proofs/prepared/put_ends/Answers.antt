@@ -46,12 +46,11 @@ loop-i-smaller-then-same_piece c = omega arith
 pub loop-i-preserved-then-same_piece : goal.loop-i-preserved-then-same_piece
 loop-i-preserved-then-same_piece c =
     let a = c.args in
-    let loop = c.loop-i in
     let h = c.loop-i-test.true in
     let f = placed_disc a.discs.now a.names.now a.first in
-    let same = same_read f a.n a.piece (λ x. x.piece) no_disc loop.i h c.piece_at.ensures c.same_piece.ensures c.if-same_piece.true in
-    let d = part-read f a.n (λ x. x.disc) no_disc loop.i h c.disc_at-d.ensures in
-    put_two loop.invariant no_disc (list_long f a.n) h same (c.on_circle-a.ensures ∙ ap start_of_disc d) (c.on_circle-b.ensures ∙ ap end_of_disc d)
+    let same = same_read f a.n a.piece (λ x. x.piece) no_disc c.loop-i.i h c.piece_at.ensures c.same_piece.ensures c.if-same_piece.true in
+    let d = part-read f a.n (λ x. x.disc) no_disc c.loop-i.i h c.disc_at-d.ensures in
+    put_two c.loop-i.invariant no_disc (list_long f a.n) h same (c.on_circle-a.ensures ∙ ap start_of_disc d) (c.on_circle-b.ensures ∙ ap end_of_disc d)
 
 pub loop-i-smaller : goal.loop-i-smaller
 loop-i-smaller c = omega arith
@@ -59,10 +58,9 @@ loop-i-smaller c = omega arith
 pub loop-i-preserved : goal.loop-i-preserved
 loop-i-preserved c =
     let a = c.args in
-    let loop = c.loop-i in
     let h = c.loop-i-test.true in
     let f = placed_disc a.discs.now a.names.now a.first in
-    put-no loop.invariant no_disc (list_long f a.n) h (same_read f a.n a.piece (λ x. x.piece) no_disc loop.i h c.piece_at.ensures c.same_piece.ensures c.if-same_piece.false)
+    put-no c.loop-i.invariant no_disc (list_long f a.n) h (same_read f a.n a.piece (λ x. x.piece) no_disc c.loop-i.i h c.piece_at.ensures c.same_piece.ensures c.if-same_piece.false)
 
 pub shape_of-ends : goal.shape_of-ends
 shape_of-ends c = put-long c.loop-i.invariant

@@ -1,9 +1,8 @@
 use native.Mathlib.Omega.{arith}
-use Prim.Native.Nat.{◌-◌}
 use native.Mathlib.Nat.{sub-zero}
 use mathlib.Core.Path.{sym, ◌∙◌}
 use Rattle.laws.proofs.Loops.{any-yes, any-no, any-done}
-use Rattle.bodies.specs.Check.{joint_lacks, bodies_lack}
+use Rattle.bodies.specs.Check.{bodies_lack}
 use Rattle.bodies.proofs.check.bodies_lack.Goals as goal
 
 pub loop-i-init : goal.loop-i-init

@@ -1,5 +1,4 @@
 use native.Mathlib.Omega.{arith}
-use Prim.Native.Nat.{◌-◌}
 use mathlib.Core.Path.{refl}
 use Rattle.laws.proofs.Writing.{starts, puts, goes_on}
 use Rattle.bodies.proofs.Walk.{in_range, up_none, up-over, turn-some, turn-none, columns_done}

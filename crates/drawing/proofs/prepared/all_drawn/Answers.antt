@@ -25,17 +25,15 @@ loop-i-smaller c = omega arith
 
 pub loop-i-preserved : goal.loop-i-preserved
 loop-i-preserved c =
-    let l = c.loop-i in
-    let v = l.invariant in
+    let v = c.loop-i.invariant in
     let x = c.part_at-p.ensures in
     let e = x.1.points_few in
-    let f : _ ≡ drawn_in c.args.parts.now l.i = ap (λ p. p.points) x.0 in
-    let s = sum_more (drawn_in c.args.parts.now) l.i in
+    let f : _ ≡ drawn_in c.args.parts.now c.loop-i.i = ap (λ p. p.points) x.0 in
+    let s = sum_more (drawn_in c.args.parts.now) c.loop-i.i in
     (omega arith, v.1, v.2, omega (arith, v.3, f, s), omega (arith, v.4, e))
 
 pub returns : goal.returns
 returns c =
-    let l = c.loop-i in
-    let v = l.invariant in
-    let n : l.i ≡ parts_in c.args.parts.now = omega (arith, v.0, v.2, c.loop-i-test.false) in
+    let v = c.loop-i.invariant in
+    let n : c.loop-i.i ≡ parts_in c.args.parts.now = omega (arith, v.0, v.2, c.loop-i-test.false) in
     (v.3 ∙ ap (λ k. sum_in (drawn_in c.args.parts.now) k 0) n, omega (arith, v.0, v.1, v.4))

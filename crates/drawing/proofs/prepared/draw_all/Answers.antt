@@ -17,35 +17,31 @@ bounds-c-j c = let h = c.part_count-n.ensures.1 in omega (arith, h)
 
 pub draw_part-at-requires : goal.draw_part-at-requires
 draw_part-at-requires c =
-    let l = c.loop-i in
     let s = c in
     let e = c.part_count-n.ensures.0 in
-    let r = lays_room _ _ _ _ l.invariant (omega (arith, e)) (eq-eqb _ _ c.if-c-j.true) s.requires.0 in
-    let k = polygon_long s.args.drawn.now s.args.parts.now s.args.q l.i in
+    let r = lays_room _ _ _ _ c.loop-i.invariant (omega (arith, e)) (eq-eqb _ _ c.if-c-j.true) s.requires.0 in
+    let k = polygon_long s.args.drawn.now s.args.parts.now s.args.q c.loop-i.i in
     omega (arith, r, k)
 
 pub overflow_add-k : goal.overflow_add-k
 overflow_add-k c =
-    let l = c.loop-i in
     let s = c in
     let e = c.part_count-n.ensures.0 in
-    let p = lays_place _ _ _ _ l.invariant (omega (arith, e)) (eq-eqb _ _ c.if-c-j.true) s.requires.1 in
+    let p = lays_place _ _ _ _ c.loop-i.invariant (omega (arith, e)) (eq-eqb _ _ c.if-c-j.true) s.requires.1 in
     omega (arith, p)
 
 pub offset_bounds-starts-k : goal.offset_bounds-starts-k
 offset_bounds-starts-k c =
-    let l = c.loop-i in
     let s = c in
     let e = c.part_count-n.ensures.0 in
-    let p = lays_place _ _ _ _ l.invariant (omega (arith, e)) (eq-eqb _ _ c.if-c-j.true) s.requires.1 in
+    let p = lays_place _ _ _ _ c.loop-i.invariant (omega (arith, e)) (eq-eqb _ _ c.if-c-j.true) s.requires.1 in
     omega (arith, p)
 
 pub bounds-starts-k : goal.bounds-starts-k
 bounds-starts-k c =
-    let l = c.loop-i in
     let s = c in
     let e = c.part_count-n.ensures.0 in
-    let p = lays_place _ _ _ _ l.invariant (omega (arith, e)) (eq-eqb _ _ c.if-c-j.true) s.requires.1 in
+    let p = lays_place _ _ _ _ c.loop-i.invariant (omega (arith, e)) (eq-eqb _ _ c.if-c-j.true) s.requires.1 in
     omega (arith, p)
 
 pub loop-i-smaller-then-c-j : goal.loop-i-smaller-then-c-j
@@ -53,18 +49,16 @@ loop-i-smaller-then-c-j c = omega arith
 
 pub loop-i-preserved-then-c-j : goal.loop-i-preserved-then-c-j
 loop-i-preserved-then-c-j c =
-    let l = c.loop-i in
     let e = c.part_count-n.ensures.0 in
-    lays_more _ _ _ _ l.invariant (omega (arith, e)) (eq-eqb _ _ c.if-c-j.true) c.draw_part-at.ensures
+    lays_more _ _ _ _ c.loop-i.invariant (omega (arith, e)) (eq-eqb _ _ c.if-c-j.true) c.draw_part-at.ensures
 
 pub loop-i-smaller : goal.loop-i-smaller
 loop-i-smaller c = omega arith
 
 pub loop-i-preserved : goal.loop-i-preserved
 loop-i-preserved c =
-    let l = c.loop-i in
     let e = c.part_count-n.ensures.0 in
-    lays_skip _ _ _ _ l.invariant (omega (arith, e)) (ne_eqb _ _ c.if-c-j.false)
+    lays_skip _ _ _ _ c.loop-i.invariant (omega (arith, e)) (ne_eqb _ _ c.if-c-j.false)
 
 pub shape_of-points : goal.shape_of-points
 shape_of-points c = c.loop-i.invariant.drawn.long
@@ -74,10 +68,9 @@ shape_of-starts c = c.loop-i.invariant.marked.long
 
 pub returns : goal.returns
 returns c =
-    let l = c.loop-i in
     let e = c.part_count-n.ensures.0 in
-    let h : parts_in c.args.parts.now ≤ l.i = omega (arith, e, c.loop-i-test.false) in (
-      ap₂ (λ n m. record { at = n; count = m }) (lays_at _ _ _ _ l.invariant h) (lays_count _ _ _ _ l.invariant h),
-      lays_points _ _ _ _ l.invariant h,
-      lays_starts _ _ _ _ l.invariant h,
+    let h : parts_in c.args.parts.now ≤ c.loop-i.i = omega (arith, e, c.loop-i-test.false) in (
+      ap₂ (λ n m. record { at = n; count = m }) (lays_at _ _ _ _ c.loop-i.invariant h) (lays_count _ _ _ _ c.loop-i.invariant h),
+      lays_points _ _ _ _ c.loop-i.invariant h,
+      lays_starts _ _ _ _ c.loop-i.invariant h,
     )

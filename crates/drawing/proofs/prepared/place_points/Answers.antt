@@ -42,15 +42,13 @@ loop-i-smaller c = omega arith
 
 pub loop-i-preserved : goal.loop-i-preserved
 loop-i-preserved c =
-    let l = c.loop-i in
     let s = c in
-    (omega arith, omega arith, puts (row-turn (world_of s.args.place) (point_at s.args.drawn.now) s.args.first s.args.n l.i _ (omega arith) (c.world-p.ensures ∙ ap (world_of s.args.place) c.point_at.ensures)) l.invariant.2)
+    (omega arith, omega arith, puts (row-turn (world_of s.args.place) (point_at s.args.drawn.now) s.args.first s.args.n c.loop-i.i _ (omega arith) (c.world-p.ensures ∙ ap (world_of s.args.place) c.point_at.ensures)) c.loop-i.invariant.2)
 
 pub shape_of-points : goal.shape_of-points
 shape_of-points c = c.loop-i.invariant.2.long
 
 pub returns : goal.returns
 returns c =
-    let l = c.loop-i in
     let s = c in
-    ends (row_done (world_of s.args.place) (point_at s.args.drawn.now) s.args.first s.args.n l.i (omega arith)) l.invariant.2
+    ends (row_done (world_of s.args.place) (point_at s.args.drawn.now) s.args.first s.args.n c.loop-i.i (omega arith)) c.loop-i.invariant.2

@@ -38,21 +38,18 @@ bounds-m-3 c = omega arith
 
 pub returns-then-same_ends : goal.returns-then-same_ends
 returns-then-same_ends c =
-    let l = c.loop-i in
     let s = c.args in
-    sym (any-yes (same_ends (record { a = s.a; b = s.b })) (λ j. mouth_in (get_or s.mouths.now j [])) (length s.mouths.now) l.i (omega arith) (sym c.same_ends.ensures ∙ c.if-same_ends.true)) ∙ l.invariant
+    sym (any-yes (same_ends (record { a = s.a; b = s.b })) (λ j. mouth_in (get_or s.mouths.now j [])) (length s.mouths.now) c.loop-i.i (omega arith) (sym c.same_ends.ensures ∙ c.if-same_ends.true)) ∙ c.loop-i.invariant
 
 pub loop-i-smaller : goal.loop-i-smaller
 loop-i-smaller c = omega arith
 
 pub loop-i-preserved : goal.loop-i-preserved
 loop-i-preserved c =
-    let l = c.loop-i in
     let s = c.args in
-    sym (any-no (same_ends (record { a = s.a; b = s.b })) (λ j. mouth_in (get_or s.mouths.now j [])) (length s.mouths.now) l.i (omega arith) (sym c.same_ends.ensures ∙ c.if-same_ends.false)) ∙ l.invariant
+    sym (any-no (same_ends (record { a = s.a; b = s.b })) (λ j. mouth_in (get_or s.mouths.now j [])) (length s.mouths.now) c.loop-i.i (omega arith) (sym c.same_ends.ensures ∙ c.if-same_ends.false)) ∙ c.loop-i.invariant
 
 pub returns : goal.returns
 returns c =
-    let l = c.loop-i in
     let s = c.args in
-    sym (any-done (same_ends (record { a = s.a; b = s.b })) (λ j. mouth_in (get_or s.mouths.now j [])) (length s.mouths.now) l.i (omega arith)) ∙ l.invariant
+    sym (any-done (same_ends (record { a = s.a; b = s.b })) (λ j. mouth_in (get_or s.mouths.now j [])) (length s.mouths.now) c.loop-i.i (omega arith)) ∙ c.loop-i.invariant

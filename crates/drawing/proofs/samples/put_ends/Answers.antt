@@ -40,11 +40,10 @@ loop-i-smaller c =
 
 pub loop-i-preserved : goal.loop-i-preserved
 loop-i-preserved c =
-    let l = c.loop-i in
     let s = c in
     let e = c.silhouette_count-n.ensures.0 in
     let k = rows-count s.args.segs.now s.args.first s.args.p s.requires.0 s.requires.1 in
-    (omega arith, next_row _ l.i (ends-turn _ l.i (omega arith) c.silhouette_seg-s.ensures c.start-a.ensures c.end-e.ensures) l.invariant.1)
+    (omega arith, next_row _ c.loop-i.i (ends-turn _ c.loop-i.i (omega arith) c.silhouette_seg-s.ensures c.start-a.ensures c.end-e.ensures) c.loop-i.invariant.1)
 
 pub overflow_add-result : goal.overflow_add-result
 overflow_add-result c =
@@ -57,8 +56,7 @@ shape_of-mouths c = c.loop-i.invariant.1.long
 
 pub returns : goal.returns
 returns c =
-    let l = c.loop-i in
     let s = c in
     let e = c.silhouette_count-n.ensures.0 in
     let k = rows-count s.args.segs.now s.args.first s.args.p s.requires.0 s.requires.1 in
-    (omega arith, ends (ends-done _ l.i (omega arith)) l.invariant.1)
+    (omega arith, ends (ends-done _ c.loop-i.i (omega arith)) c.loop-i.invariant.1)

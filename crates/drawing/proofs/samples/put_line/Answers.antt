@@ -27,15 +27,13 @@ loop-k-smaller c = omega arith
 
 pub loop-k-preserved : goal.loop-k-preserved
 loop-k-preserved c =
-    let l = c.loop-k in
     let s = c in
-    (omega arith, omega arith, puts (line-turn (world_of s.args.place) (on_line s.args.a s.args.b) l.k _ (omega arith) (c.world-p.ensures ∙ ap (world_of s.args.place) c.on_line.ensures)) l.invariant.2)
+    (omega arith, omega arith, puts (line-turn (world_of s.args.place) (on_line s.args.a s.args.b) c.loop-k.k _ (omega arith) (c.world-p.ensures ∙ ap (world_of s.args.place) c.on_line.ensures)) c.loop-k.invariant.2)
 
 pub shape_of-samples : goal.shape_of-samples
 shape_of-samples c = c.loop-k.invariant.2.long
 
 pub returns : goal.returns
 returns c =
-    let l = c.loop-k in
     let s = c in
-    (omega arith, ends (line-done (world_of s.args.place) (on_line s.args.a s.args.b) l.k (omega arith)) l.invariant.2)
+    (omega arith, ends (line-done (world_of s.args.place) (on_line s.args.a s.args.b) c.loop-k.k (omega arith)) c.loop-k.invariant.2)

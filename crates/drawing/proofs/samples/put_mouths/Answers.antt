@@ -24,28 +24,25 @@ overflow_add-i c = let h = c.requires.0.count in omega arith
 
 pub overflow_add-first : goal.overflow_add-first
 overflow_add-first c =
-    let l = c.loop-i in
-    let h = c.requires.0.all l.i c.loop-i-test.true in
-    let e = l.invariant.0 in
+    let h = c.requires.0.all c.loop-i.i c.loop-i-test.true in
+    let e = c.loop-i.invariant.0 in
     omega arith
 
 pub put_ends-at-requires : goal.put_ends-at-requires
 put_ends-at-requires c =
-    let l = c.loop-i in
     let s = c in
-    asks_ends s.args.segs.now l.invariant.1 s.requires.0 c.loop-i-test.true l.invariant.0 s.requires.1 s.requires.2
+    asks_ends s.args.segs.now c.loop-i.invariant.1 s.requires.0 c.loop-i-test.true c.loop-i.invariant.0 s.requires.1 s.requires.2
 
 pub loop-i-smaller-then-is_read_cut : goal.loop-i-smaller-then-is_read_cut
 loop-i-smaller-then-is_read_cut c = omega arith
 
 pub loop-i-preserved-then-is_read_cut : goal.loop-i-preserved-then-is_read_cut
 loop-i-preserved-then-is_read_cut c =
-    let l = c.loop-i in
     let s = c in
     let h = c.loop-i-test.true in
     let ps = s.args.ps in (
-      ap (λ (n : ℕ). n + segs_of ps l.i) l.invariant.0 ∙ sym (sum_more (segs_of ps) l.i),
-      mouths-more l.invariant.1 h (sym c.is_read_cut.ensures ∙ c.if-is_read_cut.true) (from-part ps (outlines_in s.args.segs.now) l.i s.requires.0 h l.invariant.0) c.put_ends-at.ensures,
+      ap (λ (n : ℕ). n + segs_of ps c.loop-i.i) c.loop-i.invariant.0 ∙ sym (sum_more (segs_of ps) c.loop-i.i),
+      mouths-more c.loop-i.invariant.1 h (sym c.is_read_cut.ensures ∙ c.if-is_read_cut.true) (from-part ps (outlines_in s.args.segs.now) c.loop-i.i s.requires.0 h c.loop-i.invariant.0) c.put_ends-at.ensures,
     )
 
 pub loop-i-smaller : goal.loop-i-smaller
@@ -53,9 +50,8 @@ loop-i-smaller c = omega arith
 
 pub loop-i-preserved : goal.loop-i-preserved
 loop-i-preserved c =
-    let l = c.loop-i in
     let ps = c.args.ps in
-    (ap (λ (n : ℕ). n + segs_of ps l.i) l.invariant.0 ∙ sym (sum_more (segs_of ps) l.i), mouths-skip l.invariant.1 c.loop-i-test.true (sym c.is_read_cut.ensures ∙ c.if-is_read_cut.false))
+    (ap (λ (n : ℕ). n + segs_of ps c.loop-i.i) c.loop-i.invariant.0 ∙ sym (sum_more (segs_of ps) c.loop-i.i), mouths-skip c.loop-i.invariant.1 c.loop-i-test.true (sym c.is_read_cut.ensures ∙ c.if-is_read_cut.false))
 
 pub shape_of-mouths : goal.shape_of-mouths
 shape_of-mouths c = c.loop-i.invariant.1.rest.long

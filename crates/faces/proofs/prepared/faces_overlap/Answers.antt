@@ -37,32 +37,27 @@ loop-i-smaller-then-is_long c = omega arith
 
 pub loop-i-preserved-then-is_long : goal.loop-i-preserved-then-is_long
 loop-i-preserved-then-is_long c =
-    let l = c.loop-i in
     let s = c.args in
-    let f = c.face_at-f in
     let h = c.loop-i-test.true in
     let fs = list_in (face_at s.faces.now) s.m s.b in
-    let g = step-taken s.pa s.pb fs l.deepest f.result c.world-a0.ensures c.world-a1.ensures c.sub-e.ensures c.dot.ensures c.is_long.ensures c.if-is_long.true c.vector-v.ensures c.rotate-w.ensures c.past-deepest.ensures.0 in
-    (omega (arith, h), c.past-deepest.ensures.1, fold_read (step_of s.pa s.pb fs) (λ k. face_at s.faces.now (s.a + k)) s.n l.i h f.ensures g ∙ l.invariant.2)
+    let g = step-taken s.pa s.pb fs c.loop-i.deepest c.face_at-f.result c.world-a0.ensures c.world-a1.ensures c.sub-e.ensures c.dot.ensures c.is_long.ensures c.if-is_long.true c.vector-v.ensures c.rotate-w.ensures c.past-deepest.ensures.0 in
+    (omega (arith, h), c.past-deepest.ensures.1, fold_read (step_of s.pa s.pb fs) (λ k. face_at s.faces.now (s.a + k)) s.n c.loop-i.i h c.face_at-f.ensures g ∙ c.loop-i.invariant.2)
 
 pub loop-i-smaller : goal.loop-i-smaller
 loop-i-smaller c = omega arith
 
 pub loop-i-preserved : goal.loop-i-preserved
 loop-i-preserved c =
-    let l = c.loop-i in
     let s = c.args in
-    let f = c.face_at-f in
     let h = c.loop-i-test.true in
     let fs = list_in (face_at s.faces.now) s.m s.b in
-    let g = step_left s.pa s.pb fs l.deepest f.result c.world-a0.ensures c.world-a1.ensures c.sub-e.ensures c.dot.ensures c.is_long.ensures c.if-is_long.false in
-    (omega (arith, h), l.invariant.1, fold_read (step_of s.pa s.pb fs) (λ k. face_at s.faces.now (s.a + k)) s.n l.i h f.ensures g ∙ l.invariant.2)
+    let g = step_left s.pa s.pb fs c.loop-i.deepest c.face_at-f.result c.world-a0.ensures c.world-a1.ensures c.sub-e.ensures c.dot.ensures c.is_long.ensures c.if-is_long.false in
+    (omega (arith, h), c.loop-i.invariant.1, fold_read (step_of s.pa s.pb fs) (λ k. face_at s.faces.now (s.a + k)) s.n c.loop-i.i h c.face_at-f.ensures g ∙ c.loop-i.invariant.2)
 
 pub returns : goal.returns
 unfolding faces_overlap
 returns c =
-    let l = c.loop-i in
     let s = c.args in
     let step = step_of s.pa s.pb (list_in (face_at s.faces.now) s.m s.b) in
-    sym (fold_done step (λ k. face_at s.faces.now (s.a + k)) l.deepest s.n l.i c.loop-i-test.false) ∙ l.invariant.2
+    sym (fold_done step (λ k. face_at s.faces.now (s.a + k)) c.loop-i.deepest s.n c.loop-i.i c.loop-i-test.false) ∙ c.loop-i.invariant.2
     ∙ ap (foldl step zero_f) (list_from (face_at s.faces.now) s.a s.n)

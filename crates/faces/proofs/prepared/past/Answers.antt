@@ -30,18 +30,15 @@ loop-i-smaller c = omega arith
 
 pub loop-i-preserved : goal.loop-i-preserved
 loop-i-preserved c =
-    let l = c.loop-i in
     let s = c.args in
-    let f = c.face_at-f in
-    let e = past-taken s.a0 s.a1 s.normal s.place l.d f.result c.world-b0.ensures c.world-b1.ensures c.over-d.ensures.0 in
-    (omega arith, c.over-d.ensures.1, fold_read (past_of s.a0 s.a1 s.normal s.place) (λ k. face_at s.faces.now (s.first + k)) s.n l.i c.loop-i-test.true f.ensures e ∙ l.invariant.2)
+    let e = past-taken s.a0 s.a1 s.normal s.place c.loop-i.d c.face_at-f.result c.world-b0.ensures c.world-b1.ensures c.over-d.ensures.0 in
+    (omega arith, c.over-d.ensures.1, fold_read (past_of s.a0 s.a1 s.normal s.place) (λ k. face_at s.faces.now (s.first + k)) s.n c.loop-i.i c.loop-i-test.true c.face_at-f.ensures e ∙ c.loop-i.invariant.2)
 
 pub returns : goal.returns
 returns c =
-    let l = c.loop-i in
     let s = c.args in
     let step = past_of s.a0 s.a1 s.normal s.place in (
-      sym (fold_done step (λ k. face_at s.faces.now (s.first + k)) l.d s.n l.i c.loop-i-test.false) ∙ l.invariant.2
+      sym (fold_done step (λ k. face_at s.faces.now (s.first + k)) c.loop-i.d s.n c.loop-i.i c.loop-i-test.false) ∙ c.loop-i.invariant.2
           ∙ ap (foldl step s.deepest) (list_from (face_at s.faces.now) s.first s.n),
-      l.invariant.1,
+      c.loop-i.invariant.1,
     )

@@ -1,5 +1,5 @@
 use native.Mathlib.Omega.{arith}
-use Rattle.ieee.proofs.Halves.{Square, square, over-is}
+use Rattle.ieee.proofs.Halves.{square, over-is}
 use Rattle.ieee.proofs.root.over.Goals as goal
 
 pub overflow_mul-s : goal.overflow_mul-s

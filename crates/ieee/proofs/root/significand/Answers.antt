@@ -1,5 +1,5 @@
 use native.Mathlib.Omega.{arith}
-use Rattle.ieee.proofs.Halves.{Square, square, excess, lower-fits, excess-is}
+use Rattle.ieee.proofs.Halves.{square, excess, lower-fits, excess-is}
 use Rattle.ieee.proofs.Steps.{around, guess_pos}
 use Rattle.ieee.proofs.root.significand.Goals as goal
 

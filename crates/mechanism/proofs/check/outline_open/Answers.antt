@@ -1,11 +1,10 @@
 use native.Mathlib.Omega.{arith}
-use Prim.Native.Nat.{◌+◌, ◌-◌}
+use Prim.Native.Nat.{◌+◌}
 use native.Mathlib.Nat.{sub-zero, mod-lt}
 use mathlib.Core.Path.{sym, ap₂, ◌∙◌}
 use borrow.Author.Tests.{lt-ltb, le-ltb}
 use Rattle.laws.proofs.Choice.{or_yes, or_no}
 use Rattle.laws.proofs.Loops.{any-yes, any-no, any-done}
-use Rattle.mechanism.specs.Description.{seg_at}
 use Rattle.mechanism.specs.Check.{seg_open, outline_open}
 use Rattle.mechanism.proofs.check.outline_open.Goals as goal
 

@@ -1,11 +1,10 @@
 use native.Mathlib.Omega.{arith}
-use Prim.Native.Nat.{◌-◌}
 use native.Mathlib.Nat.{sub-zero}
 use mathlib.Core.Path.{sym, ◌∙◌}
 use borrow.Author.Tests.{lt-ltb, le-ltb}
 use Rattle.laws.proofs.Choice.{or_yes, or_no}
 use Rattle.laws.proofs.Loops.{any-yes, any-no, any-done}
-use Rattle.mechanism.specs.Check.{pair_over, pairs_over}
+use Rattle.mechanism.specs.Check.{pairs_over}
 use Rattle.mechanism.proofs.check.pairs_over.Goals as goal
 
 pub returns-then-n-gt16 : goal.returns-then-n-gt16

@@ -1,9 +1,8 @@
 use native.Mathlib.Omega.{arith}
-use Prim.Native.Nat.{◌-◌}
 use native.Mathlib.Nat.{sub-zero}
 use mathlib.Core.Path.{sym, ◌∙◌}
 use Rattle.laws.proofs.Loops.{any-yes, any-no, any-done}
-use Rattle.mechanism.specs.Check.{sweep_lacks, parts_lack}
+use Rattle.mechanism.specs.Check.{parts_lack}
 use Rattle.mechanism.proofs.check.parts_lack.Goals as goal
 
 pub loop-i-init : goal.loop-i-init

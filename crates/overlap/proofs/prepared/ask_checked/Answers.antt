@@ -18,6 +18,6 @@ returns c =
     let a = b.args in
     let known = ltb a.pair a.pairs in
     c.then_called.ensures
-    ∙ ap (λ (s : Checked). then_called s c.fits2.result known true) b.bodies_stand.ensures
-    ∙ ap (λ (f : Bool). then_called (bodies_stand a.bodies) f known true) c.fits2.ensures
+    ∙ ap (λ (s : Checked). then_called s c.fits.result known true) b.bodies_stand.ensures
+    ∙ ap (λ (f : Bool). then_called (bodies_stand a.bodies) f known true) c.fits.ensures
     ∙ sym (goes-on_if LimitPassed _ (le-ltb 16 a.pairs b.if-pairs-gt16.false))

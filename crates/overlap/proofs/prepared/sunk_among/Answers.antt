@@ -30,14 +30,13 @@ loop-i-smaller-then-w-j-eq1 c = omega arith
 
 pub loop-i-preserved-then-w-j-eq1 : goal.loop-i-preserved-then-w-j-eq1
 loop-i-preserved-then-w-j-eq1 c =
-    let l = c.loop-i in
     let s = c.args in
     let n = c.part_count-count.ensures.0 in
     let m = material_of s.points.now s.starts.now s.n.solids s.n.all in
     let f = samples_in s.sampled.now s.parts.now s.q in
-    let taken = samples_taken s.sampled.now s.parts.now s.q m l.d l.i c.part_at-p.ensures.0 c.placement_at.ensures c.sunk_part-d.ensures in (
-      sunk_plain m f (chosen_as s.w 1) (parts_in s.parts.now) l.d l.i l.invariant.0 taken,
-      sunk_more m f (chosen_as s.w 1) (parts_in s.parts.now) l.d l.i l.invariant.0 taken (omega (arith, n)) (eq-eqb _ 1 c.if-w-j-eq1.true) ∙ l.invariant.1,
+    let taken = samples_taken s.sampled.now s.parts.now s.q m c.loop-i.d c.loop-i.i c.part_at-p.ensures.0 c.placement_at.ensures c.sunk_part-d.ensures in (
+      sunk_plain m f (chosen_as s.w 1) (parts_in s.parts.now) c.loop-i.d c.loop-i.i c.loop-i.invariant.0 taken,
+      sunk_more m f (chosen_as s.w 1) (parts_in s.parts.now) c.loop-i.d c.loop-i.i c.loop-i.invariant.0 taken (omega (arith, n)) (eq-eqb _ 1 c.if-w-j-eq1.true) ∙ c.loop-i.invariant.1,
     )
 
 pub loop-i-smaller : goal.loop-i-smaller
@@ -45,14 +44,12 @@ loop-i-smaller c = omega arith
 
 pub loop-i-preserved : goal.loop-i-preserved
 loop-i-preserved c =
-    let l = c.loop-i in
     let s = c.args in
     let n = c.part_count-count.ensures.0 in
-    (l.invariant.0, sunk_skip (material_of s.points.now s.starts.now s.n.solids s.n.all) (samples_in s.sampled.now s.parts.now s.q) (chosen_as s.w 1) (parts_in s.parts.now) l.d l.i (omega (arith, n)) (ne_eqb _ 1 c.if-w-j-eq1.false) ∙ l.invariant.1)
+    (c.loop-i.invariant.0, sunk_skip (material_of s.points.now s.starts.now s.n.solids s.n.all) (samples_in s.sampled.now s.parts.now s.q) (chosen_as s.w 1) (parts_in s.parts.now) c.loop-i.d c.loop-i.i (omega (arith, n)) (ne_eqb _ 1 c.if-w-j-eq1.false) ∙ c.loop-i.invariant.1)
 
 pub returns : goal.returns
 returns c =
-    let l = c.loop-i in
     let s = c.args in
     let n = c.part_count-count.ensures.0 in
-    c.root.ensures.value ∙ sym (sunk_end (material_of s.points.now s.starts.now s.n.solids s.n.all) (samples_in s.sampled.now s.parts.now s.q) (chosen_as s.w 1) (parts_in s.parts.now) l.d l.i (omega (arith, n))) ∙ l.invariant.1
+    c.root.ensures.value ∙ sym (sunk_end (material_of s.points.now s.starts.now s.n.solids s.n.all) (samples_in s.sampled.now s.parts.now s.q) (chosen_as s.w 1) (parts_in s.parts.now) c.loop-i.d c.loop-i.i (omega (arith, n))) ∙ c.loop-i.invariant.1

@@ -25,20 +25,18 @@ loop-i-smaller c = omega arith
 
 pub loop-i-preserved : goal.loop-i-preserved
 loop-i-preserved c =
-    let l = c.loop-i in
     let a = c in
     let s = a.args in
     let m = material_of s.points.now s.starts.now s.n.solids s.n.all in
     let w = c.world-p.result in
-    let p : w ≡ world_of s.place (point_at s.sampled.now (s.first + l.i)) = c.world-p.ensures ∙ ap (world_of s.place) c.point_at.ensures in
-    let e : max_of l.d (square_depth m (world_of s.place (point_at s.sampled.now (s.first + l.i)))) ≡ c.deeper_square-d.result =
+    let p : w ≡ world_of s.place (point_at s.sampled.now (s.first + c.loop-i.i)) = c.world-p.ensures ∙ ap (world_of s.place) c.point_at.ensures in
+    let e : max_of c.loop-i.d (square_depth m (world_of s.place (point_at s.sampled.now (s.first + c.loop-i.i)))) ≡ c.deeper_square-d.result =
     sym (c.deeper_square-d.ensures
-    ∙ ap (max_of l.d) (within-square s.points.now s.starts.now s.n.solids s.n.all w s.range a.requires.2 ∙ ap (square_depth m) p)) in
-    squares-more m (world_of s.place) (point_at s.sampled.now) s.first s.count l.d c.deeper_square-d.result l.i (omega arith) e ∙ l.invariant
+    ∙ ap (max_of c.loop-i.d) (within-square s.points.now s.starts.now s.n.solids s.n.all w s.range a.requires.2 ∙ ap (square_depth m) p)) in
+    squares-more m (world_of s.place) (point_at s.sampled.now) s.first s.count c.loop-i.d c.deeper_square-d.result c.loop-i.i (omega arith) e ∙ c.loop-i.invariant
 
 pub returns : goal.returns
 returns c =
-    let l = c.loop-i in
     let s = c.args in
     let m = material_of s.points.now s.starts.now s.n.solids s.n.all in
-    sym (squares-end m (world_of s.place) (point_at s.sampled.now) s.first s.count l.d l.i (omega arith)) ∙ l.invariant
+    sym (squares-end m (world_of s.place) (point_at s.sampled.now) s.first s.count c.loop-i.d c.loop-i.i (omega arith)) ∙ c.loop-i.invariant

@@ -35,11 +35,9 @@ pub loop-i-preserved : goal.loop-i-preserved
 loop-i-preserved c =
     let s = c in
     let a = s.args in
-    let l = c.loop-i in
-    (omega arith, of-turn _ _ l.i c.loop-i-test.true (c.read_pair.ensures ∙ by_records a.faces.now a.fnames.now a.discs.now a.dnames.now a.sides.now a.centers.now a.choices.now a.drawn.now a.sampled.now a.parts.now a.q a.places.now a.values.now a.n l.i s.requires.1 s.requires.2) l.invariant.1)
+    (omega arith, of-turn _ _ c.loop-i.i c.loop-i-test.true (c.read_pair.ensures ∙ by_records a.faces.now a.fnames.now a.discs.now a.dnames.now a.sides.now a.centers.now a.choices.now a.drawn.now a.sampled.now a.parts.now a.q a.places.now a.values.now a.n c.loop-i.i s.requires.1 s.requires.2) c.loop-i.invariant.1)
 
 pub returns : goal.returns
 returns c =
     let a = c.args in
-    let l = c.loop-i in
-    ap (λ (x : List PairReading). record { checked = Accepted; count = a.n; pairs = a.pairs; pair = x }) (of_end _ _ l.i c.loop-i-test.false l.invariant.1)
+    ap (λ (x : List PairReading). record { checked = Accepted; count = a.n; pairs = a.pairs; pair = x }) (of_end _ _ c.loop-i.i c.loop-i-test.false c.loop-i.invariant.1)

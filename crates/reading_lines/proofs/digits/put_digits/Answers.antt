@@ -14,8 +14,7 @@ overflow_sub-left c = omega arith
 pub digit-requires : goal.digit-requires
 digit-requires c =
     let args = c.args in
-    let loop = c.loop-left in
-    omega (arith, mod-lt loop.rest {m = args.base} (omega arith))
+    omega (arith, mod-lt c.loop-left.rest {m = args.base} (omega arith))
 
 pub overflow_add-out : goal.overflow_add-out
 overflow_add-out c = omega arith

@@ -14,8 +14,7 @@ put_digits-requires c =
 pub overflow_add-result : goal.overflow_add-result
 overflow_add-result c =
     let args = c.args in
-    let digit-count = c.digit_count-n in
-    omega (arith, digit-count.ensures, length-decimal args.v)
+    omega (arith, c.digit_count-n.ensures, length-decimal args.v)
 
 pub returns : goal.returns
 unfolding decimal_of

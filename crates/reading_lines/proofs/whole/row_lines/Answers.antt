@@ -42,8 +42,30 @@ offset_bounds-grad-from c =
     let s = h.slips in
     omega arith
 
+pub slice_bounds-columns_line-end : goal.slice_bounds-columns_line-end
+slice_bounds-columns_line-end c =
+    let a = c.args in
+    let p = c.requires in
+    let h = p.0 in
+    let e = columns_end a.j a.n a.coords p.1 in
+    let f = columns_few a.n a.coords h.many h.few in
+    let g = h.grads in
+    let s = h.slips in
+    omega arith
+
 pub offset_bounds-slip-from : goal.offset_bounds-slip-from
 offset_bounds-slip-from c =
+    let a = c.args in
+    let p = c.requires in
+    let h = p.0 in
+    let e = columns_end a.j a.n a.coords p.1 in
+    let f = columns_few a.n a.coords h.many h.few in
+    let g = h.grads in
+    let s = h.slips in
+    omega arith
+
+pub slice_bounds-columns_line-end-2 : goal.slice_bounds-columns_line-end-2
+slice_bounds-columns_line-end-2 c =
     let a = c.args in
     let p = c.requires in
     let h = p.0 in

@@ -9,9 +9,8 @@ put_body-requires c = subst (Room c.args.t) c.in-Joined.is c.requires
 pub put_part-requires : goal.put_part-requires
 put_part-requires c =
     let args = c.args in
-    let r2 = c.r-in-Drawn-1 in
     let pre = c.requires in
-    subst (Room args.t) r2.given.1 pre
+    subst (Room args.t) c.in-Drawn.is pre
 
 pub overflow_add-t : goal.overflow_add-t
 overflow_add-t c =
@@ -26,9 +25,8 @@ put_seg-requires c = (subst (Room c.args.t) c.in-Edge.is c.requires).0
 pub put_pair-requires : goal.put_pair-requires
 put_pair-requires c =
     let args = c.args in
-    let r3 = c.r-in-Paired-1 in
     let pre = c.requires in
-    subst (Room args.t) r3.given.1 pre
+    subst (Room args.t) c.in-Paired.is pre
 
 pub put_a-requires : goal.put_a-requires
 put_a-requires c = subst (Room c.args.t) c.in-OnA.is c.requires
@@ -51,8 +49,7 @@ returns-in-Joined c =
 pub returns-in-Drawn : goal.returns-in-Drawn
 unfolding put
 returns-in-Drawn c =
-    let r2 = c.r-in-Drawn-1 in
-    let t1 = r2.given.1 in
+    let t1 = c.in-Drawn.is in
     simp (t1, c.put_part.ensures, c.new_part.ensures)
 
 pub returns-in-Edge : goal.returns-in-Edge
@@ -64,8 +61,7 @@ returns-in-Edge c =
 pub returns-in-Paired : goal.returns-in-Paired
 unfolding put
 returns-in-Paired c =
-    let r3 = c.r-in-Paired-1 in
-    let t1 = r3.given.1 in
+    let t1 = c.in-Paired.is in
     simp (t1, c.put_pair.ensures, c.new_pair.ensures)
 
 pub returns-in-OnA : goal.returns-in-OnA

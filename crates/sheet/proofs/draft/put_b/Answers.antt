@@ -2,6 +2,4 @@ use Rattle.sheet.proofs.draft.put_b.Goals as goal
 
 pub returns : goal.returns
 returns c =
-    let grow = c.grow-b in
-    let last = c.last-k in
-    simp (c.put_pair.ensures, grow.ensures, last.ensures)
+    simp (c.put_pair.ensures, c.grow-b.ensures, c.last-k.ensures)

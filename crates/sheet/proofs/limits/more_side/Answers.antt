@@ -2,4 +2,4 @@ use Rattle.sheet.proofs.limits.more_side.Goals as goal
 
 pub returns : goal.returns
 returns c =
-    simp c.Span-of.ensures
+    simp c.span_of.ensures

@@ -1,4 +1,3 @@
-use Prim.Native.Nat.{◌-◌}
 use native.Mathlib.Omega.{arith}
 use Rattle.laws.proofs.Writing.{puts}
 use Rattle.sides.proofs.Known.{pairs-long}
@@ -35,13 +34,11 @@ loop-i-smaller c = omega arith
 pub loop-i-preserved : goal.loop-i-preserved
 loop-i-preserved c =
     let s = c in
-    let l = c.loop-i in
     let k = pairs-long s.args.pairs _ s.well_formed.1.1.0 in
-    (omega arith, puts (pairs-turn s.args.ps s.args.o s.args.pairs l.i (omega arith) c.loop-i-test.true c.pair_features.ensures) l.invariant.1)
+    (omega arith, puts (pairs-turn s.args.ps s.args.o s.args.pairs c.loop-i.i (omega arith) c.loop-i-test.true c.pair_features.ensures) c.loop-i.invariant.1)
 
 pub returns : goal.returns
 returns c =
     let s = c in
-    let l = c.loop-i in
     let k = pairs-long s.args.pairs _ s.well_formed.1.1.0 in
-    pairs_end s.args.ps s.args.o s.args.pairs l.i (omega arith) c.loop-i-test.false l.invariant.1
+    pairs_end s.args.ps s.args.o s.args.pairs c.loop-i.i (omega arith) c.loop-i-test.false c.loop-i.invariant.1

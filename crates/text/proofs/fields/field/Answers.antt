@@ -1,5 +1,4 @@
 use native.Mathlib.Omega.{arith}
-use Prim.Native.Nat.{◌-◌}
 use Rattle.text.proofs.Pieces.{piece}
 use Rattle.text.proofs.FieldLaws.{passing_starts, passes-end, passes, passed}
 use Rattle.text.proofs.fields.field.Goals as goal
@@ -9,6 +8,22 @@ loop-i-init c = passing_starts c.args.line.now c.args.j
 
 pub slice_bounds-result-count : goal.slice_bounds-result-count
 slice_bounds-result-count c =
+    let args = c.args in
+    let loop = c.loop-i in
+    let find = c.find-e in
+    let p = piece args.line.now 44 loop.at find.result loop.invariant.within find.ensures in
+    omega arith
+
+pub slice_bounds-result-start : goal.slice_bounds-result-start
+slice_bounds-result-start c =
+    let args = c.args in
+    let loop = c.loop-i in
+    let find = c.find-e in
+    let p = piece args.line.now 44 loop.at find.result loop.invariant.within find.ensures in
+    omega arith
+
+pub slice_bounds-result-end : goal.slice_bounds-result-end
+slice_bounds-result-end c =
     let args = c.args in
     let loop = c.loop-i in
     let find = c.find-e in
@@ -49,6 +64,20 @@ loop-i-preserved c =
 
 pub slice_bounds-result-count-2 : goal.slice_bounds-result-count-2
 slice_bounds-result-count-2 c =
+    let args = c.args in
+    let loop = c.loop-i in
+    let p = piece args.line.now 44 loop.at c.find-e-2.result loop.invariant.within c.find-e-2.ensures in
+    omega arith
+
+pub slice_bounds-result-start-2 : goal.slice_bounds-result-start-2
+slice_bounds-result-start-2 c =
+    let args = c.args in
+    let loop = c.loop-i in
+    let p = piece args.line.now 44 loop.at c.find-e-2.result loop.invariant.within c.find-e-2.ensures in
+    omega arith
+
+pub slice_bounds-result-end-2 : goal.slice_bounds-result-end-2
+slice_bounds-result-end-2 c =
     let args = c.args in
     let loop = c.loop-i in
     let p = piece args.line.now 44 loop.at c.find-e-2.result loop.invariant.within c.find-e-2.ensures in

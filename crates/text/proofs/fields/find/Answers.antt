@@ -1,5 +1,4 @@
 use native.Mathlib.Omega.{arith}
-use Prim.Native.Nat.{◌-◌}
 use mathlib.Core.Path.{refl, ◌∙◌}
 use Rattle.text.proofs.Pieces.{looks_on, found, not_found}
 use Rattle.text.proofs.fields.find.Goals as goal

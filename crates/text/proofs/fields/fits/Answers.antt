@@ -1,6 +1,5 @@
 use mathlib.Core.Bool.{not}
 use native.Mathlib.Omega.{arith}
-use Prim.Native.Nat.{◌-◌}
 use mathlib.Core.Path.{sym, ◌∙◌, ap}
 use borrow.Author.Tests.{not-true, not-false}
 use Rattle.text.proofs.Pieces.{piece}
@@ -12,6 +11,20 @@ loop-j-init c = fitting-starts c.args.line.now c.args.form.now
 
 pub slice_bounds-f-count : goal.slice_bounds-f-count
 slice_bounds-f-count c =
+    let args = c.args in
+    let loop = c.loop-j in
+    let p = piece args.line.now 44 loop.at c.find-e.result loop.invariant.within c.find-e.ensures in
+    omega arith
+
+pub slice_bounds-f-start : goal.slice_bounds-f-start
+slice_bounds-f-start c =
+    let args = c.args in
+    let loop = c.loop-j in
+    let p = piece args.line.now 44 loop.at c.find-e.result loop.invariant.within c.find-e.ensures in
+    omega arith
+
+pub slice_bounds-f-end : goal.slice_bounds-f-end
+slice_bounds-f-end c =
     let args = c.args in
     let loop = c.loop-j in
     let p = piece args.line.now 44 loop.at c.find-e.result loop.invariant.within c.find-e.ensures in

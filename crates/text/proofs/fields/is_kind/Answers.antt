@@ -7,14 +7,14 @@ use Rattle.text.proofs.fields.is_kind.Goals as goal
 
 pub returns-then-kind-eq110 : goal.returns-then-kind-eq110
 unfolding is_kind
-returns-then-kind-eq110 c = c.is_whole.ensures ∙ ap is_whole c.number_of_lem.ensures ∙ sym (cond_yes _ _ (eq-eqb _ _ c.if-kind-eq110.true))
+returns-then-kind-eq110 c = c.is_whole.ensures ∙ ap is_whole c.number_of.ensures ∙ sym (cond_yes _ _ (eq-eqb _ _ c.if-kind-eq110.true))
 
 pub returns-then-kind-eq102 : goal.returns-then-kind-eq102
 unfolding is_kind
 returns-then-kind-eq102 c =
     let if1 = c.if-kind-eq110 in
     let if2 = c.if-kind-eq102 in
-    c.is_real.ensures ∙ ap is_real c.Real-of.ensures ∙ sym (cond_no _ _ (ne_eqb _ _ if1.false) ∙ cond_yes _ _ (eq-eqb _ _ if2.true))
+    c.is_real.ensures ∙ ap is_real c.real_of.ensures ∙ sym (cond_no _ _ (ne_eqb _ _ if1.false) ∙ cond_yes _ _ (eq-eqb _ _ if2.true))
 
 pub returns-then-kind-eq114 : goal.returns-then-kind-eq114
 unfolding is_kind

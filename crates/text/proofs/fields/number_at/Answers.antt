@@ -3,4 +3,4 @@ use Rattle.text.specs.Fields.{whole_or_0, number_of}
 use Rattle.text.proofs.fields.number_at.Goals as goal
 
 pub returns : goal.returns
-returns c = c.whole_or_0.ensures ∙ ap whole_or_0 (c.number_of_lem.ensures ∙ ap number_of c.field.ensures)
+returns c = c.whole_or_0.ensures ∙ ap whole_or_0 (c.number_of.ensures ∙ ap number_of c.field.ensures)

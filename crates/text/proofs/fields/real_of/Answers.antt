@@ -1,6 +1,5 @@
 use mathlib.Core.Bool.{not}
 use native.Mathlib.Omega.{arith}
-use Prim.Native.Nat.{◌-◌}
 use mathlib.Core.Path.{sym, ◌∙◌, ap}
 use borrow.Author.Tests.{not-true, not-false}
 use Rattle.text.proofs.FieldLaws.{not_sixteen, hexes_start, not_hex, hexes_more, hexes_room, hexes_end}
