@@ -10,23 +10,26 @@ to = $(DESTDIR)$(PREFIX)
 home = $(to)/lib/sewqirun
 version = $$(cat VERSION)
 fill = sed -e "s|@PREFIX@|$(PREFIX)|" -e "s|@VERSION@|$(version)|"
-sources := $(shell find crates crates.txt -type f)
+program = crates/readings/out/readings
+archive = crates/sewqirun/out/libsewqirun.a
+sources := $(shell find crates.txt crates/*/src crates/*/specs crates/*/proofs -type f 2>/dev/null)
 
 .PHONY: all install uninstall
-all: target/bin/readings target/staticlib/libsewqirun.a
+all: $(program) $(archive)
 
-target/bin/readings: $(sources)
-	RT_JOBS=$${RT_JOBS:-4} rt check readings
+# `rt run` also runs the program, here on no input.
+$(program): $(sources)
+	cd crates/readings && rt run </dev/null
 	touch $@
 
-target/staticlib/libsewqirun.a: $(sources)
-	RT_JOBS=$${RT_JOBS:-4} rt staticlib sewqirun
+$(archive): $(sources)
+	cd crates/sewqirun && rt lib
 	touch $@
 
 install: all
 	mkdir -p "$(home)/tools" "$(to)/bin" "$(to)/include" "$(to)/lib/pkgconfig" "$(to)/share/doc/sewqirun" \
 	    "$(to)/share/man/man1" "$(to)/share/man/man3"
-	install -m 755 target/bin/readings "$(home)/program"
+	install -m 755 $(program) "$(home)/program"
 	install -m 755 readings "$(home)/readings"
 	install -m 644 VERSION "$(home)/VERSION"
 	./readings --kit >"$(home)/KIT" && chmod 644 "$(home)/KIT"
@@ -35,7 +38,7 @@ install: all
 	ln -sf ../lib/sewqirun/readings "$(to)/bin/readings"
 	ln -sf ../lib/sewqirun/tools/draw "$(to)/bin/readings-draw"
 	ln -sf ../lib/sewqirun/tools/sheet "$(to)/bin/readings-sheet"
-	install -m 644 target/staticlib/libsewqirun.a "$(to)/lib/libsewqirun.a"
+	install -m 644 $(archive) "$(to)/lib/libsewqirun.a"
 	install -m 644 library/sewqirun.h "$(to)/include/sewqirun.h"
 	$(fill) library/sewqirun.pc.in >"$(to)/lib/pkgconfig/sewqirun.pc"
 	$(fill) docs/man/readings.1 >"$(to)/share/man/man1/readings.1"

@@ -3,7 +3,7 @@
  * Both functions are proved to do what they say for every text. They keep nothing between calls, allocate nothing and
  * may be called from several threads at once. They need about 2 MB of stack. What is proved assumes the arithmetic of
  * IEEE 754 in its default modes: a thread that has set another rounding mode (fesetround), or flushes subnormal numbers
- * to zero, gets other readings. */
+ * to zero, gets other readings. The code is for x86-64-v2 and later processors, and does not look which it is run by. */
 #ifndef SEWQIRUN_H
 #define SEWQIRUN_H
 
