@@ -77,8 +77,8 @@ fn guess(x: f64, b: u64, e: u64) -> u64
 // difference lies within 3 * 2^52 of zero, the root is nearest to g or to a neighbour of it: to g + 1 where the difference is above g, to g - 1 where it is at most -g.
 // The two quotients by 2^58 are 0 or 1 and say which, without a branch. From a guess that is further off, the root is searched for.
 fn significand(m: u64, g: u64) -> u64
-    requires fact_1 { Range m }
-    requires fact_2 { g < 2 ^ 54 }
+    requires in_range { Range m }
+    requires few_bits { g < 2 ^ 54 }
     ensures { Near m result }
 {
     let a = g / 67108864;
@@ -162,7 +162,7 @@ fn subnormal(b: u64) -> f64
     f64::from_bits(n.j * 4503599627370496 + q)
 }
 
-// The square root of x, rounded once to the nearest double. `IsRoot` is what IEEE 754 says of it; `rootOf` is the one double of which that holds.
+// The square root of x, rounded once to the nearest double. `IsRoot` is what IEEE 754 says of it; `root_of` is the one double of which that holds.
 pub fn root(x: f64) -> f64
     ensures value { result ≡ root_of x }
     ensures is_root { IsRoot x result }

@@ -6,7 +6,7 @@ pub overflow_mul-m : goal.overflow_mul-m
 overflow_mul-m c = let r = normal_range c.args.b c.requires.0 c.requires.1 in omega arith
 
 pub significand-q-requires : goal.significand-q-requires
-significand-q-requires c = let s = c in record { fact_1 = normal_range s.args.b s.requires.0 s.requires.1; fact_2 = c.guess.ensures }
+significand-q-requires c = let s = c in record { in_range = normal_range s.args.b s.requires.0 s.requires.1; few_bits = c.guess.ensures }
 
 pub float_from_bits-result : goal.float_from_bits-result
 float_from_bits-result c =

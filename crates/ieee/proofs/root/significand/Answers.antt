@@ -4,29 +4,29 @@ use Rattle.ieee.proofs.Steps.{around, guess_pos}
 use Rattle.ieee.proofs.root.significand.Goals as goal
 
 pub overflow_mul-s : goal.overflow_mul-s
-overflow_mul-s c = omega (arith, square c.args.g c.requires.fact_2)
+overflow_mul-s c = omega (arith, square c.args.g c.requires.few_bits)
 
 pub overflow_mul-h : goal.overflow_mul-h
-overflow_mul-h c = omega (arith, square c.args.g c.requires.fact_2)
+overflow_mul-h c = omega (arith, square c.args.g c.requires.few_bits)
 
 pub overflow_add-h : goal.overflow_add-h
-overflow_add-h c = omega (arith, square c.args.g c.requires.fact_2)
+overflow_add-h c = omega (arith, square c.args.g c.requires.few_bits)
 
 pub overflow_mul-l-2 : goal.overflow_mul-l-2
-overflow_mul-l-2 c = omega (arith, square c.args.g c.requires.fact_2)
+overflow_mul-l-2 c = omega (arith, square c.args.g c.requires.few_bits)
 
 pub overflow_add-l : goal.overflow_add-l
-overflow_add-l c = omega (arith, square c.args.g c.requires.fact_2)
+overflow_add-l c = omega (arith, square c.args.g c.requires.few_bits)
 
 pub overflow_sub-d : goal.overflow_sub-d
-overflow_sub-d c = let s = c in lower-fits s.args.m s.args.g s.requires.fact_2 c.if-h-m.true
+overflow_sub-d c = let s = c in lower-fits s.args.m s.args.g s.requires.few_bits c.if-h-m.true
 
 pub overflow_sub-result-then-i-lt67 : goal.overflow_sub-result-then-i-lt67
 overflow_sub-result-then-i-lt67 c =
     let s = c in
     let m = s.args.m in
     let g = s.args.g in
-    let p = guess_pos m g (excess m g) s.requires.fact_1 (excess-is m g s.requires.fact_2 c.if-h-m.true) c.if-i-lt67.true in
+    let p = guess_pos m g (excess m g) s.requires.in_range (excess-is m g s.requires.few_bits c.if-h-m.true) c.if-i-lt67.true in
     omega arith
 
 pub returns-then-i-lt67 : goal.returns-then-i-lt67
@@ -34,4 +34,4 @@ returns-then-i-lt67 c =
     let s = c in
     let m = s.args.m in
     let g = s.args.g in
-    around m g (excess m g) s.requires.fact_1 s.requires.fact_2 (excess-is m g s.requires.fact_2 c.if-h-m.true) c.if-i-ge61.true c.if-i-lt67.true
+    around m g (excess m g) s.requires.in_range s.requires.few_bits (excess-is m g s.requires.few_bits c.if-h-m.true) c.if-i-ge61.true c.if-i-lt67.true
