@@ -6,7 +6,7 @@ use mathlib.Core.Path.{◌≡◌, refl, sym, ap, ap₂, subst, ◌∙◌}
 use mathlib.Core.Bool.{true, false}
 use mathlib.Core.List.{List, [], ◌∷◌, ◌++◌, map}
 use lib.Ieee.{Float}
-use lib.ListN.{length, take, drop, get_or, set, drop_of_length_le, length-map, length-set}
+use lib.ListN.{length, take, drop, get_or, set, drop_of_length-le, length-map, length-set}
 use lib.Seq.{sets, drop-cons, get_or-take, length-take-le}
 use Rattle.laws.specs.Lists.{flat}
 use Rattle.laws.specs.Loops.{Writing}
@@ -32,7 +32,7 @@ module _ {A : Type 0} (l : List A) (n i : ℕ) (long : n ≤ length l) where
   pub none_of : n ≤ i → drop i (take n l) ≡ []
   none_of h =
       let k : length (take n l) ≡ n = length-take-le n l long in
-      drop_of_length_le (take n l) (let g : length (take n l) ≤ i = omega arith in g)
+      drop_of_length-le (take n l) (let g : length (take n l) ≤ i = omega arith in g)
 
 -- ---- the first face with the piece
 module _ (piece : Piece) (l : List PlacedFace) (n i : ℕ) (long : n ≤ length l) where

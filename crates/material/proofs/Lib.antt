@@ -1,4 +1,3 @@
-pub mod Going
 pub mod Parts
 pub mod Serves
 pub mod Outside

@@ -38,13 +38,6 @@ turned_by p odd e = cond (cross_of p e) (not odd) odd
 unfoldable pub inside_of : Point → List Point → Bool
 inside_of p poly = foldl (turned_by p) false (edges_of poly)
 
--- Going round with the previous corner and its side of the line kept (document 02, item 2). After corner i the corner kept is that corner, its side is that
--- corner's (whether p lies below it), and what is counted so far is what `inside_of` counts for the edges passed, which are the first i.
-pub record Passed (p : Point) (poly : List Point) (i : ℕ) (corner : Point) (side odd : Bool) : Type 0 where
-  pub its_corner : corner ≡ get_or poly i nowhere
-  pub its_side : side ≡ lt p.y (get_or poly i nowhere).y
-  pub counted : odd ≡ foldl (turned_by p) false (take i (edges_of poly))
-
 -- ---- the material: parts, less cuts
 pub record Material : Type 0 where
   pub solids : List (List Point)

@@ -2,7 +2,7 @@
 #![tactic(auto)]
 
 ghost use Rattle.std.specs.Prelude.{◌≡◌, false, cond, ◌-◌, ◌%◌, ◌<◌, ◌≤◌, get_or};
-ghost use Rattle.std.specs.Float.Ieee.{is_nan, lt};
+ghost use Rattle.std.specs.Float.Ieee.{is_nan};
 ghost use Rattle.laws.specs.Lists.{list_in, foldl, any};
 ghost use Rattle.ieee.specs.Consts.{zero_f};
 ghost use Rattle.ieee.specs.Num.{min_of, max_of};
@@ -24,12 +24,13 @@ fn wrap(i: usize, n: usize) -> usize
     if i < n { i } else { 0 }
 }
 
-// Whether the edge from a to b crosses the ray from p. Whether p is below a and below b is known already.
-fn crosses(a: Point, below_a: bool, b: Point, below_b: bool, p: Point) -> bool
-    requires { (below_a ≡ lt p.y a.y) × (below_b ≡ lt p.y b.y) }
+// Whether the edge from a to b crosses the ray from p.
+fn crosses(a: Point, b: Point, p: Point) -> bool
     ensures { result ≡ cross_of p (record { a = a; b = b }) }
 {
-    if below_a != below_b {
+    let up = p.y < a.y;
+    let down = p.y < b.y;
+    if up != down {
         let x = a.x + (p.y - a.y) * (b.x - a.x) / (b.y - a.y);
         p.x < x
     } else {
@@ -37,8 +38,7 @@ fn crosses(a: Point, below_a: bool, b: Point, below_b: bool, p: Point) -> bool
     }
 }
 
-// Whether p is inside a closed polygon. The previous corner is kept with its side of the line (`Passed`), so that each corner is read once and compared once;
-// corner 0 and its side serve once more for the closing edge.
+// Whether p is inside a closed polygon. The closing edge is taken after the loop, so that the loop wraps no index.
 pub fn inside(poly: &[Spot], p: Point) -> bool
     ensures { result ≡ inside_of p (points_of poly.now) }
 {
@@ -47,28 +47,26 @@ pub fn inside(poly: &[Spot], p: Point) -> bool
         return false;
     }
     let last = n - 1;
-    let u = poly[0];
-    let first = Point { x: u[0], y: u[1] };
-    let first_side = p.y < first.y;
-    let mut corner = first;
-    let mut side = first_side;
     let mut odd = false;
     let mut i: usize = 0;
     while i < last {
+        let u = poly[i];
         i += 1;
         let v = poly[i];
-        let from = corner;
-        let below = side;
-        corner = Point { x: v[0], y: v[1] };
-        if p.y < corner.y {
-            side = true;
-            odd = odd != crosses(from, below, corner, true, p);
-        } else {
-            side = false;
-            odd = odd != crosses(from, below, corner, false, p);
+        let a = Point { x: u[0], y: u[1] };
+        let b = Point { x: v[0], y: v[1] };
+        if crosses(a, b, p) {
+            odd = !odd;
         }
     }
-    odd != crosses(corner, side, first, first_side, p)
+    let u = poly[last];
+    let v = poly[0];
+    let a = Point { x: u[0], y: u[1] };
+    let b = Point { x: v[0], y: v[1] };
+    if crosses(a, b, p) {
+        return !odd;
+    }
+    odd
 }
 
 // The start k, 0 past the last.

@@ -3,7 +3,7 @@ use Prim.Native.Nat.{ℕ, zero, suc, ◌+◌, ◌*◌, ◌<◌, ◌≤◌}
 use native.Mathlib.Omega.{arith}
 use native.Mathlib.Numerals.{add-one}
 use native.Mathlib.Nat.{add-mul}
-use mathlib.Core.Path.{◌≡◌, refl, sym, ap, subst, ◌∙◌}
+use mathlib.Core.Path.{◌≡◌, refl, sym, ap, ap₂, ◌∙◌}
 use mathlib.Core.List.{List, [], ◌∷◌}
 use lib.Ieee.{Float, nan}
 use lib.ListN.{length, get_or, set, take, drop, replicate, length-set, length-replicate}
@@ -25,18 +25,15 @@ use Rattle.bodies.specs.contracts.pose.Columns as K
 use Rattle.ieee.specs.Consts.{zero_f}
 use Rattle.ieee.specs.Operators.{◌⊕◌, ◌⊖◌}
 use Rattle.geometry.specs.Signed.{dot_of}
-use Rattle.pair_rows.specs.PairRows.{add_into, along_of}
+use Rattle.pair_rows.specs.PairRows.{add_into, sub_from, along_of}
 use Rattle.pair_rows.proofs.Store.{sets-get, sets-set, sets_then, part-long, part_same}
 
 -- what stands past the end of an array: it is never read
 abbrev pub none_at : Column
 none_at = record { coord = 0; column = record { x = nan; y = nan } }
 
-columns_long : (k : Columns) (vs : List Val) → Is K.the_row k vs → length k.column ≡ 15
+pub columns_long : (k : Columns) (vs : List Val) → Is K.the_row k vs → length k.column ≡ 15
 columns_long k vs p = array_length C.the_row 15 k.column _ p.1.1.1.0
-
-pub all_there : (k : Columns) {vs : List Val} → Is K.the_row k vs → k.count ≤ 15 → k.count ≤ length k.column
-all_there k {vs} p h = let z = columns_long k vs p in omega (arith, z, h)
 
 -- one column taken in: f of what stands at its coordinate
 abbrev pub step_by : (Float → Column → Float) → List Float → Column → List Float
@@ -115,9 +112,6 @@ module _ {f : Float → Column → Float} {cols : List Column} {count n at : ℕ
               ∙ sets-set sum-so_far out₀ at fits next.coord (f (get_or sum-so_far next.coord nan) next) inside
               ∙ ap (sets out₀ at) (sym turn)
 
-      pub summed_put : {y : Float} → y ≡ f (get_or out (at + next.coord) nan) next → Summed f cols count n at out₀ (set out (at + next.coord) y) (i + 1)
-      summed_put e = subst (λ (z : Float). Summed f cols count n at out₀ (set out (at + next.coord) z) (i + 1)) (sym e) summed_more
-
 -- ---- the columns of one chain added to zeros, then those of another subtracted
 pub along-is : (f g : Float → Column → Float) (ka kb : List Column) (z : Float) (at n : ℕ) (out₀ out₁ out₂ out₃ : List Float) → at + n ≤ length out₀
     → out₁ ≡ sets out₀ at (replicate n z)
@@ -135,6 +129,12 @@ module _ (b : Bodies) (q : Pose) (p : Point) (body : ℕ) (k : Columns) (e : k �
 
   pub found-are : take k.count k.column ≡ columns_of b q p body
   found-are = ap (λ (x : Columns). take x.count x.column) e ∙ taken (columns_of b q p body) (few-columns b q p 15 body)
+
+-- what is written with the columns found of two bodies
+pub along-found : (b : Bodies) (q : Pose) (v p : Point) (x y : ℕ) (ka kb : Columns) → ka ≡ columns_in (columns_of b q p x) → kb ≡ columns_in (columns_of b q p y)
+    → foldl (sub_from v) (foldl (add_into v) (replicate b.coords zero_f) (take ka.count ka.column)) (take kb.count kb.column) ≡ along_of b q v p x y
+along-found b q v p x y ka kb e f =
+    ap₂ (λ (l m : List Column). foldl (sub_from v) (foldl (add_into v) (replicate b.coords zero_f) l) m) (found-are b q p x ka e) (found-are b q p y kb f)
 
 -- one float a coordinate
 pub along-long : (b : Bodies) (q : Pose) (v p : Point) (x y : ℕ) → length (along_of b q v p x y) ≡ b.coords

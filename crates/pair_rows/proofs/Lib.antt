@@ -2,5 +2,3 @@ pub mod Store
 pub mod Along
 pub mod Listing
 pub mod Behind
-pub mod Rail
-pub mod Order

@@ -1,2 +1,1 @@
 pub mod PairRows
-pub mod Private

@@ -1,19 +1,16 @@
 -- The rows shown of a pair's candidates, which stand in two arrays, with their gradients and slips. Definitions only.
-use Rattle.std.specs.Prelude.{ℕ, zero, suc, ◌+◌, ◌*◌, ◌≤◌, ◌≡◌, Bool, true, not, ◌&&◌, ◌||◌, cond, List, [], ◌∷◌, ◌++◌, map, eqb, leb, ltb, length, get_or, set, replicate, Float}
+use Rattle.std.specs.Prelude.{ℕ, ◌+◌, ◌*◌, ◌≤◌, ◌≡◌, Bool, not, ◌&&◌, ◌||◌, cond, List, [], ◌∷◌, map, eqb, leb, ltb, length, get_or, set, replicate, Float}
 use Rattle.std.proofs.lemmas.List.Edits.{sets}
 use Rattle.std.specs.Float.Ieee.{lt, eq, neg}
 use Rattle.std.specs.Float.{nan}
-use Rattle.laws.specs.Lists.{foldl, flat, any}
+use Rattle.laws.specs.Lists.{foldl, flat}
 use Rattle.ieee.specs.Consts.{zero_f}
 use Rattle.ieee.specs.Operators.{◌⊕◌, ◌⊖◌}
 use Rattle.geometry.specs.Signed.{dot_of}
 use Rattle.geometry.specs.declared.Point.{Point}
-use Rattle.bodies.specs.Description.{body_at}
 use Rattle.bodies.specs.Pose.{columns_of}
 use Rattle.mechanism.specs.Rows.{gap_in}
 use Rattle.bodies.specs.declared.Bodies.{Bodies}
-use Rattle.bodies.specs.declared.Joint.{Joint}
-use Rattle.bodies.specs.declared.Joint.TheVariants.{Ground, Revolute, Prismatic}
 use Rattle.bodies.specs.declared.pose.Column.{Column}
 use Rattle.bodies.specs.declared.pose.Pose.{Pose}
 use Rattle.showing.specs.Showing.{shown}
@@ -55,39 +52,6 @@ sub_from v g k = set g k.coord (get_or g k.coord nan ⊖ dot_of v k.column)
 abbrev pub along_of : Bodies → Pose → Point → Point → ℕ → ℕ → List Float
 along_of b q v at body_a bodyB =
     foldl (sub_from v) (foldl (add_into v) (replicate b.coords zero_f) (columns_of b q at body_a)) (columns_of b q at bodyB)
-
--- ---- the rail first (document 02, item 9): where each coordinate drives at most one joint on each of the two chains, body B's may be walked first
--- the coordinate that a joint uses, if any
-abbrev pub joint_coords : Joint → List ℕ
-joint_coords Ground = []
-joint_coords (Revolute pivot c) = c ∷ []
-joint_coords (Prismatic origin axis c) = c ∷ []
-
--- the coordinates that the joints from a body up to the ground use, in the steps of `columns_up`
-unfoldable pub coords_up : Bodies → ℕ → ℕ → List ℕ
-coords_up b zero body = []
-coords_up b (suc steps) zero = []
-coords_up b (suc steps) (suc i) = cond (ltb i 15) (joint_coords (body_at b i).joint ++ coords_up b steps (body_at b i).parent) []
-
--- no number stands twice
-unfoldable pub once : List ℕ → Bool
-once [] = true
-once (c ∷ l) = not (any (eqb c) l) && once l
-
--- each coordinate drives at most one joint on the chain of a body
-abbrev pub driven_once : Bodies → ℕ → Bool
-driven_once b body = once (coords_up b 15 body)
-
--- the columns of body B's chain subtracted, then those of body A's added
-abbrev pub rail_along : Bodies → Pose → Point → Point → ℕ → ℕ → List Float
-rail_along b q v at body_a bodyB =
-    foldl (add_into v) (foldl (sub_from v) (replicate b.coords zero_f) (columns_of b q at bodyB)) (columns_of b q at body_a)
-
--- for any bodies, pose, vector and point, and two bodies whose chains are so driven, both orders give the same list, bit for bit, NaNs alike;
--- a joint on both chains is one on each
-pub record RailFirst : Type 0 where
-  pub same : (b : Bodies) (q : Pose) (v at : Point) (body_a bodyB : ℕ) → driven_once b body_a ≡ true → driven_once b bodyB ≡ true
-      → rail_along b q v at body_a bodyB ≡ along_of b q v at body_a bodyB
 
 -- the normal turned by a quarter to the left
 abbrev pub left_of : Point → Point

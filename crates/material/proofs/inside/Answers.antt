@@ -1,68 +1,28 @@
-use Prim.Native.Nat.{ℕ, ◌+◌, ◌<◌, ◌≤◌}
-use mathlib.Core.Path.{◌≡◌, refl, sym, ap, subst, ◌∙◌}
-use mathlib.Core.Bool.{Bool, true, false, not, cond, beq}
-use mathlib.Core.List.{List, []}
-use native.Mathlib.Omega.{arith}
-use lib.ListN.{length, get_or, length-map, get_or-map}
-use lib.Ieee.{Float, lt}
+use Prim.Native.Nat.{ℕ, ◌+◌, ◌-◌}
+use mathlib.Core.Path.{◌≡◌, sym, ap, ◌∙◌}
+use mathlib.Core.Bool.{false, not}
+use mathlib.Core.List.{[]}
+use native.Mathlib.Nat.{sub-zero}
+use lib.ListN.{length, get_or}
 use Rattle.laws.specs.Lists.{list_in, foldl}
-use Rattle.geometry.specs.declared.Point.{Point}
-use Rattle.material.specs.Material.{nowhere, edge_at, turned_by, inside_of, point_of, points_of, Passed}
-use Rattle.material.proofs.Going.{starts, passes, closes}
+use Rattle.laws.proofs.Choice.{cond_yes, cond_no}
+use Rattle.laws.proofs.Lists.{fold_on, fold_done}
+use Rattle.material.specs.Material.{cross_of, turned_by, inside_of, point_of}
+use Rattle.material.proofs.Parts.{row_edge, edges-of-rows, wraps, wraps-over}
+use native.Mathlib.Omega.{arith}
 use Rattle.material.proofs.inside.Goals as goal
-
--- corner i of a polygon in rows
-corner-at : (rows : List (List Float)) (i : ℕ) → get_or (points_of rows) i nowhere ≡ point_of (get_or rows i [])
-corner-at rows i = get_or-map point_of rows i []
-
-long : (rows : List (List Float)) {n : ℕ} → n < length rows → n < length (points_of rows)
-long rows h = let l = length-map rows point_of in omega arith
-
-short : (rows : List (List Float)) {n : ℕ} → length rows ≤ n → length (points_of rows) ≤ n
-short rows h = let l = length-map rows point_of in omega arith
-
--- the side kept is the corner's
-on-side : {p : Point} {poly : List Point} {i : ℕ} {corner : Point} {side odd : Bool} → Passed p poly i corner side odd → side ≡ lt p.y corner.y
-on-side {p} h = h.its_side ∙ ap (λ (q : Point). lt p.y q.y) (sym h.its_corner)
-
--- a crossing turns the count round
-turned : (odd : Bool) {x y : Bool} → x ≡ y → cond y (not odd) odd ≡ not (beq odd x)
-turned odd {x} {y} e = ap (λ (b : Bool). cond b (not odd) odd) (sym e) ∙ go x odd
-  where
-    go : (b o : Bool) → cond b (not o) o ≡ not (beq o b)
-    go true true = refl
-    go true false = refl
-    go false true = refl
-    go false false = refl
 
 pub returns-then-n-eq0 : goal.returns-then-n-eq0
 unfolding inside_of foldl list_in
 returns-then-n-eq0 c =
     let s = c.args in
-    let l = points_of s.poly.now in
-    let none : length l ≡ 0 = length-map s.poly.now point_of ∙ c.if-n-eq0.true in
-    sym (ap (λ (n : ℕ). foldl (turned_by s.p) false (list_in (edge_at (λ i. get_or l i nowhere) n) n 0)) none)
+    sym (ap (foldl (turned_by s.p) false) (edges-of-rows s.poly.now) ∙ ap (λ (n : ℕ). foldl (turned_by s.p) false (list_in (row_edge s.poly.now) n 0)) c.if-n-eq0.true)
 
 pub overflow_sub-last : goal.overflow_sub-last
 overflow_sub-last c = omega arith
 
-pub bounds-poly-0 : goal.bounds-poly-0
-bounds-poly-0 c = omega arith
-
-pub bounds-u-0 : goal.bounds-u-0
-bounds-u-0 c = omega arith
-
-pub bounds-u-1 : goal.bounds-u-1
-bounds-u-1 c = omega arith
-
 pub loop-i-init : goal.loop-i-init
-loop-i-init c =
-    let s = c.args in
-    let l = points_of s.poly.now in
-    (omega arith, subst (λ (q : Point). Passed s.p l 0 q (lt s.p.y q.y) false) (corner-at s.poly.now 0) (starts s.p l))
-
-pub overflow_add-i : goal.overflow_add-i
-overflow_add-i c = omega arith
+loop-i-init c = (omega arith, rw sub-zero)
 
 pub offset_bounds-poly-i : goal.offset_bounds-poly-i
 offset_bounds-poly-i c = omega arith
@@ -70,48 +30,88 @@ offset_bounds-poly-i c = omega arith
 pub bounds-poly-i : goal.bounds-poly-i
 bounds-poly-i c = omega arith
 
+pub overflow_add-i : goal.overflow_add-i
+overflow_add-i c = omega arith
+
+pub offset_bounds-poly-i-in-loop-i : goal.offset_bounds-poly-i-in-loop-i
+offset_bounds-poly-i-in-loop-i c = omega arith
+
+pub bounds-poly-i-in-loop-i : goal.bounds-poly-i-in-loop-i
+bounds-poly-i-in-loop-i c = omega arith
+
+pub bounds-u-0 : goal.bounds-u-0
+bounds-u-0 c = omega arith
+
+pub bounds-u-1 : goal.bounds-u-1
+bounds-u-1 c = omega arith
+
 pub bounds-v-0 : goal.bounds-v-0
 bounds-v-0 c = omega arith
 
 pub bounds-v-1 : goal.bounds-v-1
 bounds-v-1 c = omega arith
 
-pub crosses-odd-requires : goal.crosses-odd-requires
-crosses-odd-requires c = (on-side c.loop-i.invariant.1, sym c.if-p-corner.true)
+pub loop-i-smaller-then-crosses : goal.loop-i-smaller-then-crosses
+loop-i-smaller-then-crosses c = omega arith
 
-pub loop-i-smaller-then-p-corner : goal.loop-i-smaller-then-p-corner
-loop-i-smaller-then-p-corner c = omega arith
-
-pub loop-i-preserved-then-p-corner : goal.loop-i-preserved-then-p-corner
-loop-i-preserved-then-p-corner c =
-    let l = c.loop-i in
+pub loop-i-preserved-then-crosses : goal.loop-i-preserved-then-crosses
+loop-i-preserved-then-crosses c =
     let s = c.args in
-    let poly = s.poly.now in (
-      omega arith,
-      passes s.p (points_of poly) l.i (long poly (omega arith)) l.invariant.1 (turned l.odd c.crosses-odd.ensures) (long poly (omega arith)) (sym (corner-at poly (l.i + 1))) (sym c.if-p-corner.true),
-    )
-
-pub crosses-odd-requires-else-p-corner : goal.crosses-odd-requires-else-p-corner
-crosses-odd-requires-else-p-corner c = (on-side c.loop-i.invariant.1, sym c.if-p-corner.false)
+    let e : c.crosses.result ≡ cross_of s.p (row_edge s.poly.now c.loop-i.i) =
+    c.crosses.ensures ∙ ap (λ (j : ℕ). cross_of s.p (record { a = point_of (get_or s.poly.now c.loop-i.i []); b = point_of (get_or s.poly.now j []) })) (wraps (c.loop-i.i + 1) (length s.poly.now) (omega arith)) in
+    (omega arith, fold_on (turned_by s.p) (row_edge s.poly.now) (length s.poly.now) c.loop-i.i (omega arith) (cond_yes _ _ (sym e ∙ c.if-crosses.true)) ∙ c.loop-i.invariant.1)
 
 pub loop-i-smaller : goal.loop-i-smaller
 loop-i-smaller c = omega arith
 
 pub loop-i-preserved : goal.loop-i-preserved
 loop-i-preserved c =
-    let l = c.loop-i in
     let s = c.args in
-    let poly = s.poly.now in (
-      omega arith,
-      passes s.p (points_of poly) l.i (long poly (omega arith)) l.invariant.1 (turned l.odd c.crosses-odd-else-p-corner.ensures) (long poly (omega arith)) (sym (corner-at poly (l.i + 1))) (sym c.if-p-corner.false),
-    )
+    let e : c.crosses.result ≡ cross_of s.p (row_edge s.poly.now c.loop-i.i) =
+    c.crosses.ensures ∙ ap (λ (j : ℕ). cross_of s.p (record { a = point_of (get_or s.poly.now c.loop-i.i []); b = point_of (get_or s.poly.now j []) })) (wraps (c.loop-i.i + 1) (length s.poly.now) (omega arith)) in
+    (omega arith, fold_on (turned_by s.p) (row_edge s.poly.now) (length s.poly.now) c.loop-i.i (omega arith) (cond_no _ _ (sym e ∙ c.if-crosses.false)) ∙ c.loop-i.invariant.1)
 
-pub crosses-requires : goal.crosses-requires
-crosses-requires c = (on-side c.loop-i.invariant.1, refl)
+pub offset_bounds-poly-last : goal.offset_bounds-poly-last
+offset_bounds-poly-last c = omega arith
+
+pub bounds-poly-last : goal.bounds-poly-last
+bounds-poly-last c = omega arith
+
+pub bounds-poly-0 : goal.bounds-poly-0
+bounds-poly-0 c = omega arith
+
+pub bounds-u-0-2 : goal.bounds-u-0-2
+bounds-u-0-2 c = omega arith
+
+pub bounds-u-1-2 : goal.bounds-u-1-2
+bounds-u-1-2 c = omega arith
+
+pub bounds-v-0-2 : goal.bounds-v-0-2
+bounds-v-0-2 c = omega arith
+
+pub bounds-v-1-2 : goal.bounds-v-1-2
+bounds-v-1-2 c = omega arith
+
+pub returns-then-crosses-2 : goal.returns-then-crosses-2
+unfolding inside_of
+returns-then-crosses-2 c =
+    let s = c.args in
+    let n = (length s.poly.now) in
+    let k = n - 1 in
+    let i : k ≡ c.loop-i.i = omega arith in
+    let e : c.crosses-2.result ≡ cross_of s.p (row_edge s.poly.now k) =
+    c.crosses-2.ensures ∙ ap (λ (j : ℕ). cross_of s.p (record { a = point_of (get_or s.poly.now k []); b = point_of (get_or s.poly.now j []) })) (wraps-over (k + 1) n (omega arith) (omega arith)) in
+    sym (fold_done (turned_by s.p) (row_edge s.poly.now) (not c.loop-i.odd) n (k + 1) (omega arith)) ∙ fold_on (turned_by s.p) (row_edge s.poly.now) n k (omega arith) (cond_yes _ _ (sym e ∙ c.if-crosses-2.true))
+    ∙ ap (λ (j : ℕ). foldl (turned_by s.p) c.loop-i.odd (list_in (row_edge s.poly.now) (n - j) j)) i ∙ c.loop-i.invariant.1 ∙ ap (foldl (turned_by s.p) false) (sym (edges-of-rows s.poly.now))
 
 pub returns : goal.returns
+unfolding inside_of
 returns c =
-    let l = c.loop-i in
     let s = c.args in
-    let poly = s.poly.now in
-    closes s.p (points_of poly) l.i (long poly (omega arith)) l.invariant.1 (turned l.odd c.crosses.ensures) (short poly (omega arith)) (sym (corner-at poly 0))
+    let n = (length s.poly.now) in
+    let k = n - 1 in
+    let i : k ≡ c.loop-i.i = omega arith in
+    let e : c.crosses-2.result ≡ cross_of s.p (row_edge s.poly.now k) =
+    c.crosses-2.ensures ∙ ap (λ (j : ℕ). cross_of s.p (record { a = point_of (get_or s.poly.now k []); b = point_of (get_or s.poly.now j []) })) (wraps-over (k + 1) n (omega arith) (omega arith)) in
+    sym (fold_done (turned_by s.p) (row_edge s.poly.now) c.loop-i.odd n (k + 1) (omega arith)) ∙ fold_on (turned_by s.p) (row_edge s.poly.now) n k (omega arith) (cond_no _ _ (sym e ∙ c.if-crosses-2.false))
+    ∙ ap (λ (j : ℕ). foldl (turned_by s.p) c.loop-i.odd (list_in (row_edge s.poly.now) (n - j) j)) i ∙ c.loop-i.invariant.1 ∙ ap (foldl (turned_by s.p) false) (sym (edges-of-rows s.poly.now))

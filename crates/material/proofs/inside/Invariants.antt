@@ -1,10 +1,14 @@
-use Prim.Native.Nat.{◌-◌, ◌<◌}
+use Prim.Native.Nat.{◌<◌, ◌-◌}
+use mathlib.Core.Path.{◌≡◌}
+use mathlib.Core.Bool.{false}
 use lib.ListN.{length}
-use Rattle.material.specs.Material.{points_of, Passed}
+use Rattle.laws.specs.Lists.{list_in, foldl}
+use Rattle.material.specs.Material.{turned_by}
+use Rattle.material.proofs.Parts.{row_edge}
 use Rattle.material.proofs.inside.Given as goal
 
 abbrev pub invariant-loop-i : goal.invariant-loop-i
-invariant-loop-i l = (l.i < length l.poly) × Passed l.p (points_of l.poly) l.i l.corner l.side l.odd
+invariant-loop-i l = (l.i < length l.poly) × (foldl (turned_by l.p) l.odd (list_in (row_edge l.poly) (length l.poly - l.i) l.i) ≡ foldl (turned_by l.p) false (list_in (row_edge l.poly) (length l.poly) 0))
 
 abbrev pub decreases-loop-i : goal.decreases-loop-i
 decreases-loop-i l = length l.poly - l.i

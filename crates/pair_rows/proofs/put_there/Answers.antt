@@ -1,4 +1,5 @@
 use native.Mathlib.Omega.{arith}
+use Prim.Native.Nat.{◌-◌}
 use mathlib.Core.Path.{sym, ◌∙◌}
 use Rattle.showing.specs.Showing.{shown}
 use Rattle.pair_rows.proofs.Along.{along-long}
@@ -75,7 +76,7 @@ bounds-values-to c =
 pub put_columns-requires : goal.put_columns-requires
 put_columns-requires c =
     let r = listing_room c.loop-i.invariant c.requires.2 c.loop-i-test.true (sym c.is_shown.ensures ∙ c.if-is_shown.true) in
-    (r.2, r.3, c.requires.3)
+    (r.2, r.3)
 
 pub overflow_add-to : goal.overflow_add-to
 overflow_add-to c =
