@@ -1,5 +1,5 @@
 use native.Mathlib.Omega.{arith}
-use Prim.Native.Nat.{◌-◌, ◌≤◌}
+use Prim.Native.Nat.{◌≤◌}
 use lib.ListN.{length}
 use Rattle.pair_rows.proofs.Along.{none_at, columns_long, summed_start, summed_room, summed_more, summed_skip, summed_long, summed_end}
 use Rattle.pair_rows.proofs.add_columns.Goals as goal

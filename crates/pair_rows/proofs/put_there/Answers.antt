@@ -1,5 +1,4 @@
 use native.Mathlib.Omega.{arith}
-use Prim.Native.Nat.{◌-◌}
 use mathlib.Core.Path.{sym, ◌∙◌}
 use Rattle.showing.specs.Showing.{shown}
 use Rattle.pair_rows.proofs.Along.{along-long}
