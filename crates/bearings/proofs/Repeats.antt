@@ -50,14 +50,14 @@ module _ (r : Row) where
   unfolding corner_bearing
   corner a pa b pb = corner-on a pa (stop_under b pb r) pb (first_of (ends_of r.feature.a (discs_in a)))
 
-  edge_on : (pa : Placement) (key : MaybeFace) (pb : Placement) (stop : MaybeFace) → Repeats r (edge_on pa key pb stop r)
-  edge_on pa NoFace pb stop = tt
-  edge_on pa (SomeFace k) pb NoFace = (refl, refl)
-  edge_on pa (SomeFace k) pb (SomeFace s) = (refl, refl)
+  edge_on_lem : (pa : Placement) (key : MaybeFace) (pb : Placement) (stop : MaybeFace) → Repeats r (edge_on pa key pb stop r)
+  edge_on_lem pa NoFace pb stop = tt
+  edge_on_lem pa (SomeFace k) pb NoFace = (refl, refl)
+  edge_on_lem pa (SomeFace k) pb (SomeFace s) = (refl, refl)
 
   edge : (a : SideFeatures) (pa : Placement) (b : SideFeatures) (pb : Placement) → Repeats r (edge_bearing a pa b pb r)
   unfolding edge_bearing
-  edge a pa b pb = edge_on pa (face_named r.feature.a (faces_in a)) pb (stop_at b pb r)
+  edge a pa b pb = edge_on_lem pa (face_named r.feature.a (faces_in a)) pb (stop_at b pb r)
 
   repeats : (f : PairFeatures) (q : Pose) → Repeats r (bearing_of f q r)
   unfolding bearing_of

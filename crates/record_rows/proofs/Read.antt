@@ -5,7 +5,7 @@ use native.Mathlib.Nat.{zero-add, zero-mul, add-mul}
 use mathlib.Core.Path.{◌≡◌, refl, sym, ap, ap₂, ◌∙◌}
 use mathlib.Core.List.{List, [], ◌++◌, map, append-nil}
 use lib.Ieee.{Float}
-use lib.ListN.{length, get_or, take, drop, length-map, length-drop, drop_of_length_le}
+use lib.ListN.{length, get_or, take, drop, length-map, length-drop, drop_of_length-le}
 use lib.Seq.{sets, take_all, take-length, length-sets}
 use Rattle.laws.proofs.Lists.{list_map, list_get, list_as}
 use Rattle.bodies.specs.declared.pose.Pose.{Pose}
@@ -71,7 +71,7 @@ module _ {X : Type 0} (at : ℕ) (xs : List X) where
   rest_back : (c : ℕ) (gs ys : List X) → ys ≡ sets rest (0 * c) gs → take at xs ++ (ys ++ drop (length xs - at) (drop at xs)) ≡ sets xs at gs
   rest_back c gs ys e =
       let l = length-drop at xs in
-      ap (λ (t : List X). take at xs ++ (ys ++ t)) (drop_of_length_le (drop at xs) (let z : length (drop at xs) ≤ length xs - at = omega (arith, l) in z))
+      ap (λ (t : List X). take at xs ++ (ys ++ t)) (drop_of_length-le (drop at xs) (let z : length (drop at xs) ≤ length xs - at = omega (arith, l) in z))
       ∙ ap (λ (t : List X). take at xs ++ t) (append-nil ys ∙ e ∙ ap (λ (k : ℕ). sets rest k gs) (zero-mul c) ∙ ap (λ (t : List X). sets t 0 gs) rest-is)
       ∙ sets-part at xs gs
 

@@ -13,7 +13,7 @@ use mathlib.Core.List.{List, [], ◌∷◌}
 use lib.Dec.{T as Holds}
 use lib.ListN.{length}
 use seplogic.Ra.Ura.{Ura}
-use mir.Syntax.{Name, Ty, Fn, named, imm, w64, ty_int, ty_ref, field, place, copy, rv_opd, seq, assign, return, call, value_local, local}
+use mir.Syntax.{named, Ty, Fn, named, imm, w64, ty_int, ty_ref, field, place, copy, rv_opd, seq, assign, return, call, value_local, local}
 use mir.Val.{Val, vint, WT, has_ty}
 use base.Logic.{SProp, ent, sep, emp, via, fst∗, snd∗, ex_e, id⊢}
 use base.Fml.{Lft, Share, ftrue, flft}
@@ -86,7 +86,7 @@ module _ {M : Type 1} {𝓤 : Ura M} (𝓛 : Logic 𝓤) where
     said-best b = ex_e 𝓤 _ (λ ws. snd∗ 𝓤 (sem 𝓛 (lasts bo.ended (κ, tt) (rows, (many rows, (p, tt))) ws)) (fact 𝓤 (b ≡ found_of rows.now p (many rows))))
 
 -- ---- the walk. The answer's type, what it is of the governing record and of records and a pair, its MIR type and the callee's name
-module _ (R : RattleType) (answer : Found → R.Denot) (among : List Row → ℕ → R.Denot) (τ : Ty) (callee : Name) where
+module _ (R : RattleType) (answer : Found → R.Denot) (among : List Row → ℕ → R.Denot) (τ : Ty) (callee : named) where
   abbrev asked : Ended
   asked = record { signature = record { lifetimes = 0; outlives = []; params = plain (λ _. S.the_row) ∷ []; result = plain (λ _. R) }; kept = (yes, tt) }
 

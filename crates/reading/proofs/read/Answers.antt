@@ -12,13 +12,12 @@ returns-in-Refused c =
     let s = c.args in
     let e = c.rows_in_numbers-a.ensures in
     let r = read_refused s.m s.q s.margin s.places.now s.values.now s.grad.now s.slip.now in
-    (r _ e.0 c.in-Refused.is c.refused.ensures, e.1)
+   
+    record { value = r _ e.value c.in-Refused.is c.refused.ensures; places_after = e.places_after; values_after = e.values_after; grad_after = e.grad_after; slip_after = e.slip_after }
 
 pub returns-in-Accepted : goal.returns-in-Accepted
 returns-in-Accepted c =
     let s = c.args in
     let e = c.rows_in_numbers-a.ensures in
-    let told = c.in-Accepted.is in (
-      read_accepted s.m s.q s.margin s.places.now s.values.now s.grad.now s.slip.now e.0 told e.1.0 e.1.1.0 c.read_pairs.ensures,
-      e.1,
-    )
+    let told = c.in-Accepted.is in
+    record { value = read_accepted s.m s.q s.margin s.places.now s.values.now s.grad.now s.slip.now e.value told e.places_after e.values_after c.read_pairs.ensures; places_after = e.places_after; values_after = e.values_after; grad_after = e.grad_after; slip_after = e.slip_after }

@@ -6,7 +6,7 @@ pub pair_at-requires : goal.pair_at-requires
 pair_at-requires c =
     let s = c.args in
     let row = row_at s.places.now s.values.now in
-    pair-few s.m s.q row s.n s.pair c.fits2.ensures
+    pair-few s.m s.q row s.n s.pair c.fits.ensures
     c.call_checked-c.ensures
     c.in-Accepted.is c.if-pair-pairs.true
 
@@ -14,7 +14,7 @@ pub returns-then-pair-pairs : goal.returns-then-pair-pairs
 returns-then-pair-pairs c =
     let s = c.args in
     let row = row_at s.places.now s.values.now in
-    is-answered s.m s.q row _ s.pair c.fits2.ensures
+    is-answered s.m s.q row _ s.pair c.fits.ensures
     c.call_checked-c.ensures
     c.in-Accepted.is c.if-pair-pairs.true
     c.pair_at.ensures c.pair_features_at-f.ensures c.governed.ensures
@@ -23,11 +23,11 @@ pub returns-in-Refused : goal.returns-in-Refused
 returns-in-Refused c =
     let s = c.args in
     let row = row_at s.places.now s.values.now in
-    is-refused s.m s.q row _ s.pair c.fits2.ensures c.call_checked-c.ensures c.in-Refused.is
+    is-refused s.m s.q row _ s.pair c.fits.ensures c.call_checked-c.ensures c.in-Refused.is
 
 pub returns-else-pair-pairs : goal.returns-else-pair-pairs
 returns-else-pair-pairs c =
     let s = c.args in
     let row = row_at s.places.now s.values.now in
-    is-lacking s.m s.q row _ s.pair c.fits2.ensures c.call_checked-c.ensures
+    is-lacking s.m s.q row _ s.pair c.fits.ensures c.call_checked-c.ensures
     c.in-Accepted.is c.if-pair-pairs.false

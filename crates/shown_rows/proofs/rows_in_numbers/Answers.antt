@@ -15,13 +15,17 @@ put_rows-n-requires c =
 pub returns-in-Refused : goal.returns-in-Refused
 returns-in-Refused c =
     let s = c.args in
+    let all =
     answers_refused s.m s.q s.margin s.places.now s.values.now s.grad.now s.slip.now _
-    (sym c.rows_checked-c.ensures ∙ c.in-Refused.is) c.refused.ensures
+    (sym c.rows_checked-c.ensures ∙ c.in-Refused.is) c.refused.ensures in
+    record { value = all.0; places_after = all.1.0; values_after = all.1.1.0; grad_after = all.1.1.1.0; slip_after = all.1.1.1.1 }
 
 pub returns-in-Accepted : goal.returns-in-Accepted
 returns-in-Accepted c =
     let b = c in
     let r = b in
     let s = r.args in
+    let all =
     answers_rows s.m s.q s.margin s.places.now s.values.now s.grad.now s.slip.now
-    (sym r.rows_checked-c.ensures ∙ r.in-Accepted.is) b.put_rows-n.ensures
+    (sym r.rows_checked-c.ensures ∙ r.in-Accepted.is) b.put_rows-n.ensures in
+    record { value = all.0; places_after = all.1.0; values_after = all.1.1.0; grad_after = all.1.1.1.0; slip_after = all.1.1.1.1 }
