@@ -1,0 +1,44 @@
+// Reading whole buffers and writing bytes and numbers, over any reader and writer.
+#![tactic(auto)]
+
+ghost use Rattle.std.specs.Prelude.{◌≡◌, ℕ, ◌≤◌, length, OnOk, IfOk, take};
+ghost use Rattle.std.specs.Io.{ReadsAtMost};
+ghost use Rattle.std.specs.Io.KnownBytes.{Appends, Consumes};
+ghost use Rattle.std.specs.Fmt.{decimal};
+
+use std::io;
+use std::io::{Read, Write};
+
+// Reads until `buf` is full or the input ends, and returns how many bytes it put at the start of `buf`.
+pub fn read_full<R: Read>(input: &mut R, buf: &mut [u8]) -> io::Result<usize>
+    ensures bound { ReadsAtMost result buf.new }
+    ensures same { length buf.new ≡ length buf.old }
+{
+    let mut done = 0;
+    while done < buf.len() {
+        let n = input.read(&mut buf[done..])?;
+        if n == 0 {
+            break;
+        }
+        done += n;
+    }
+    Ok(done)
+}
+
+pub fn write_all<W: Write>(out: &mut W, bytes: &[u8]) -> io::Result<()>
+    ensures { OnOk result (Appends (W.contents out.old) (W.contents out.new) bytes.now) }
+{
+    out.write_all(bytes)
+}
+
+// Prints `value` in decimal digits.
+pub fn print_decimal<W: Write>(out: &mut W, value: u64) -> io::Result<()>
+    ensures { OnOk result (Appends (W.contents out.old) (W.contents out.new) (decimal value)) }
+{
+    write!(out, "{value}")
+}
+
+pub fn print_hex<W: Write>(out: &mut W, value: u64, width: usize) -> io::Result<()>
+{
+    write!(out, "{value:0width$x}")
+}
