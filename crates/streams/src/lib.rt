@@ -1,10 +1,11 @@
 // Reading whole buffers and writing bytes and numbers, over any reader and writer.
 #![tactic(auto)]
 
-ghost use Rattle.std.specs.Prelude.{◌≡◌, ℕ, ◌≤◌, length, OnOk, IfOk, take};
+ghost use Rattle.std.specs.Prelude.{◌≡◌, min, length, OnOk};
 ghost use Rattle.std.specs.Io.{ReadsAtMost};
-ghost use Rattle.std.specs.Io.KnownBytes.{Appends, Consumes};
+ghost use Rattle.std.specs.Io.KnownBytes.{Appends};
 ghost use Rattle.std.specs.Fmt.{decimal};
+ghost use Rattle.streams.specs.Numbers.{hex_text};
 
 use std::io;
 use std::io::{Read, Write};
@@ -38,7 +39,10 @@ pub fn print_decimal<W: Write>(out: &mut W, value: u64) -> io::Result<()>
     write!(out, "{value}")
 }
 
+// Prints `value` in hexadecimal digits, in lower case, with zeros in front up to `width` digits; a width above 16 counts as 16.
 pub fn print_hex<W: Write>(out: &mut W, value: u64, width: usize) -> io::Result<()>
+    ensures { OnOk result (Appends (W.contents out.old) (W.contents out.new) (hex_text (min width 16) value)) }
 {
-    write!(out, "{value:0width$x}")
+    let padded = width.min(16);
+    write!(out, "{value:0padded$x}")
 }
