@@ -13,6 +13,8 @@ use mechanism::Mechanism;
 use mechanism::features::Piece;
 use sides::contacts::{Contacts, PairFeatures, with_contacts};
 use sides::{PlacedDisc, PlacedFace, PlacedPoint, SideFeatures};
+use std::io;
+use std::io::{BufWriter, Read, Write};
 
 // A number of at most six digits, with one more digit after it.
 fn tens(v: usize, b: u8) -> usize
@@ -29,192 +31,192 @@ fn length_of(d: [u8; 7]) -> usize {
     )
 }
 
-fn number(n: usize) {
-    io::print_decimal(1, n as u64);
-    io::write_all(1, b",");
+fn number<W: Write>(out: &mut W, n: usize) -> io::Result<()> {
+    streams::print_decimal(out, n as u64)?;
+    streams::write_all(out, b",")
 }
 
-fn float(x: f64) {
-    io::print_hex(1, ieee::bits::pattern(x), 16);
-    io::write_all(1, b",");
+fn float<W: Write>(out: &mut W, x: f64) -> io::Result<()> {
+    streams::print_hex(out, ieee::bits::pattern(x), 16)?;
+    streams::write_all(out, b",")
 }
 
-fn point(p: Point) {
-    float(p.x);
-    float(p.y);
+fn point<W: Write>(out: &mut W, p: Point) -> io::Result<()> {
+    float(out, p.x)?;
+    float(out, p.y)
 }
 
-fn direction(d: Dir) {
-    float(d.x);
-    float(d.y);
+fn direction<W: Write>(out: &mut W, d: Dir) -> io::Result<()> {
+    float(out, d.x)?;
+    float(out, d.y)
 }
 
-fn named(letter: &[u8], part: usize, seg: usize) {
-    io::write_all(1, letter);
-    io::write_all(1, b",");
-    number(part);
-    number(seg);
+fn named<W: Write>(out: &mut W, letter: &[u8], part: usize, seg: usize) -> io::Result<()> {
+    streams::write_all(out, letter)?;
+    streams::write_all(out, b",")?;
+    number(out, part)?;
+    number(out, seg)
 }
 
-fn print_piece(p: Piece) {
+fn print_piece<W: Write>(out: &mut W, p: Piece) -> io::Result<()> {
     match p {
-        Piece::Segment { part, seg } => named(b"S", part, seg),
-        Piece::Arc { part, seg } => named(b"A", part, seg),
-        Piece::Vertex { part, seg } => named(b"V", part, seg),
-        Piece::Center { part } => named(b"C", part, 0),
+        Piece::Segment { part, seg } => named(out, b"S", part, seg),
+        Piece::Arc { part, seg } => named(out, b"A", part, seg),
+        Piece::Vertex { part, seg } => named(out, b"V", part, seg),
+        Piece::Center { part } => named(out, b"C", part, 0),
     }
 }
 
-fn print_face(x: PlacedFace) {
+fn print_face<W: Write>(out: &mut W, x: PlacedFace) -> io::Result<()> {
     let p = x.piece;
-    print_piece(p);
+    print_piece(out, p)?;
     let f = x.face;
-    point(f.a);
-    point(f.b);
-    direction(f.normal);
-    io::write_all(1, b"\n");
+    point(out, f.a)?;
+    point(out, f.b)?;
+    direction(out, f.normal)?;
+    streams::write_all(out, b"\n")
 }
 
-fn print_disc(x: PlacedDisc) {
+fn print_disc<W: Write>(out: &mut W, x: PlacedDisc) -> io::Result<()> {
     let p = x.piece;
-    print_piece(p);
+    print_piece(out, p)?;
     let d = x.disc;
-    point(d.center);
-    float(d.radius);
-    direction(d.from);
-    direction(d.to);
-    io::write_all(1, b"\n");
+    point(out, d.center)?;
+    float(out, d.radius)?;
+    direction(out, d.from)?;
+    direction(out, d.to)?;
+    streams::write_all(out, b"\n")
 }
 
-fn print_center(x: PlacedPoint) {
+fn print_center<W: Write>(out: &mut W, x: PlacedPoint) -> io::Result<()> {
     let p = x.piece;
-    print_piece(p);
-    point(x.point);
-    io::write_all(1, b"\n");
+    print_piece(out, p)?;
+    point(out, x.point)?;
+    streams::write_all(out, b"\n")
 }
 
-fn print_faces(s: SideFeatures) {
+fn print_faces<W: Write>(out: &mut W, s: SideFeatures) -> io::Result<()> {
     let n = s.faces;
-    let mut i: usize = 0;
-    while i < 12 {
+    for i in 0..12 {
         if i < n {
             let f = s.face[i];
-            print_face(f);
+            print_face(out, f)?;
         }
-        i += 1;
     }
+    Ok(())
 }
 
-fn print_discs(s: SideFeatures) {
+fn print_discs<W: Write>(out: &mut W, s: SideFeatures) -> io::Result<()> {
     let n = s.discs;
-    let mut i: usize = 0;
-    while i < 28 {
+    for i in 0..28 {
         if i < n {
             let d = s.disc[i];
-            print_disc(d);
+            print_disc(out, d)?;
         }
-        i += 1;
     }
+    Ok(())
 }
 
-fn print_side(s: SideFeatures) {
-    io::write_all(1, b"side,");
-    number(s.body);
-    number(s.faces);
-    io::print_decimal(1, s.discs as u64);
-    io::write_all(1, b"\n");
-    print_faces(s);
-    print_discs(s);
+fn print_side<W: Write>(out: &mut W, s: SideFeatures) -> io::Result<()> {
+    streams::write_all(out, b"side,")?;
+    number(out, s.body)?;
+    number(out, s.faces)?;
+    streams::print_decimal(out, s.discs as u64)?;
+    streams::write_all(out, b"\n")?;
+    print_faces(out, s)?;
+    print_discs(out, s)?;
     let c = s.center;
-    print_center(c);
+    print_center(out, c)
 }
 
-fn print_pair(p: PairFeatures) {
+fn print_pair<W: Write>(out: &mut W, p: PairFeatures) -> io::Result<()> {
     let a = p.a;
     let b = p.b;
-    print_side(a);
-    print_side(b);
+    print_side(out, a)?;
+    print_side(out, b)
 }
 
-fn print_pairs(c: Contacts) {
+fn print_pairs<W: Write>(out: &mut W, c: Contacts) -> io::Result<()> {
     let n = c.count;
-    let mut i: usize = 0;
-    while i < 16 {
+    for i in 0..16 {
         if i < n {
             let p = c.pair[i];
-            print_pair(p);
+            print_pair(out, p)?;
         }
-        i += 1;
     }
+    Ok(())
 }
 
-fn print_contacts(c: Contacts) {
-    io::write_all(1, b"accepted,");
-    io::print_decimal(1, c.count as u64);
-    io::write_all(1, b"\n");
-    print_pairs(c);
+fn print_contacts<W: Write>(out: &mut W, c: Contacts) -> io::Result<()> {
+    streams::write_all(out, b"accepted,")?;
+    streams::print_decimal(out, c.count as u64)?;
+    streams::write_all(out, b"\n")?;
+    print_pairs(out, c)
 }
 
-fn print_problem(p: Problem) {
-    io::write_all(1, b"X,");
-    io::print_decimal(1, p.number() as u64);
-    io::write_all(1, b",");
-    io::print_decimal(1, p.place() as u64);
-    io::write_all(1, b"\n");
+fn print_problem<W: Write>(out: &mut W, p: Problem) -> io::Result<()> {
+    streams::write_all(out, b"X,")?;
+    streams::print_decimal(out, p.number() as u64)?;
+    streams::write_all(out, b",")?;
+    streams::print_decimal(out, p.place() as u64)?;
+    streams::write_all(out, b"\n")
 }
 
-fn print_features(m: Mechanism) {
+fn print_features<W: Write>(out: &mut W, m: Mechanism) -> io::Result<()> {
     let found = with_contacts(m);
     let c = found.checked;
     match c {
-        Checked::Accepted => print_contacts(found),
-        Checked::Refused(p) => print_problem(p),
+        Checked::Accepted => print_contacts(out, found),
+        Checked::Refused(p) => print_problem(out, p),
     }
 }
 
-fn answer(text: &[u8]) {
+fn answer<W: Write>(out: &mut W, text: &[u8]) -> io::Result<()> {
     let s = sheet::read(text);
     let m = s.mechanism;
     let c = s.checked;
     match c {
-        Checked::Accepted => print_features(m),
-        Checked::Refused(p) => print_problem(p),
+        Checked::Accepted => print_features(out, m),
+        Checked::Refused(p) => print_problem(out, p),
     }
 }
 
 // Reads n bytes, if there is room for them.
-fn fill(buf: &mut [u8], n: usize) {
+fn fill<R: Read>(input: &mut R, buf: &mut [u8], n: usize) -> io::Result<()> {
     if n <= buf.len() {
-        io::read_full(0, &mut buf[..n]);
+        streams::read_full(input, &mut buf[..n])?;
     }
+    Ok(())
 }
 
 // Answers the text of the first n bytes.
-fn answer_first(buf: &[u8], n: usize) {
+fn answer_first<W: Write>(out: &mut W, buf: &[u8], n: usize) -> io::Result<()> {
     if n <= buf.len() {
-        answer(&buf[..n]);
+        answer(out, &buf[..n])?;
     }
+    Ok(())
 }
 
 // Reads and answers a text; false at the end of the input.
-fn next() -> bool {
+fn next<R: Read, W: Write>(input: &mut R, out: &mut W) -> io::Result<bool> {
     let mut head = [0u8; 7];
-    if io::read_full(0, &mut head) < 7 {
-        return false;
+    if streams::read_full(input, &mut head)? < 7 {
+        return Ok(false);
     }
     let n = length_of(head);
     let mut buf = [0u8; 65537];
-    fill(&mut buf, n);
-    answer_first(&buf, n);
-    true
+    fill(input, &mut buf, n)?;
+    answer_first(out, &buf, n)?;
+    Ok(true)
 }
 
-fn main() {
-    let mut turns = 1000000u64;
-    while turns > 0 {
-        if !next() {
-            return;
+fn main(rt: HostRuntime) -> io::Result<()> {
+    let mut input = rt.stdin();
+    let mut out = BufWriter::new(rt.alloc(), rt.stdout())?;
+    for _ in 0..1000000 {
+        if !next(&mut input, &mut out)? {
+            break;
         }
-        turns -= 1;
     }
+    out.flush()
 }

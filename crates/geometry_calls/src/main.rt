@@ -16,6 +16,8 @@ ghost use Rattle.std.specs.Prelude.{◌<◌, ◌≤◌};
 
 use geometry::signed::{Disc, Face, MaybeProximity, Proximity};
 use geometry::{Dir, MaybeDir, Point, Seg};
+use std::io;
+use std::io::{BufWriter, Read, Write};
 
 // The floats of a call.
 #[derive(Clone, Copy)]
@@ -103,54 +105,57 @@ fn face_at(c: Call, i: usize) -> Face {
     }
 }
 
-fn float(x: f64) {
-    io::print_hex(1, ieee::bits::pattern(x), 16);
-    io::write_all(1, b",");
+fn float<W: Write>(out: &mut W, x: f64) -> io::Result<()> {
+    streams::print_hex(out, ieee::bits::pattern(x), 16)?;
+    streams::write_all(out, b",")
 }
 
-fn point(p: Point) {
-    float(p.x);
-    float(p.y);
+fn point<W: Write>(out: &mut W, p: Point) -> io::Result<()> {
+    float(out, p.x)?;
+    float(out, p.y)
 }
 
-fn dir(d: Dir) {
-    float(d.x);
-    float(d.y);
+fn dir<W: Write>(out: &mut W, d: Dir) -> io::Result<()> {
+    float(out, d.x)?;
+    float(out, d.y)
 }
 
-fn none() {
-    io::write_all(1, b"-");
+fn none<W: Write>(out: &mut W) -> io::Result<()> {
+    streams::write_all(out, b"-")
 }
 
-fn proximity(found: MaybeProximity) {
+fn proximity<W: Write>(out: &mut W, found: MaybeProximity) -> io::Result<()> {
     match found {
         MaybeProximity::SomeProximity(p) => {
-            float(p.gap);
-            dir(p.normal);
-            point(p.point);
+            float(out, p.gap)?;
+            dir(out, p.normal)?;
+            point(out, p.point)
         }
-        MaybeProximity::NoProximity => none(),
+        MaybeProximity::NoProximity => none(out),
     }
 }
 
-fn new_dir(c: Call) {
+fn new_dir<W: Write>(out: &mut W, c: Call) -> io::Result<()> {
     let found = Dir::new(c.x[0], c.x[1]);
     match found {
-        MaybeDir::SomeDir(d) => dir(d),
-        MaybeDir::NoDir => none(),
+        MaybeDir::SomeDir(d) => dir(out, d),
+        MaybeDir::NoDir => none(out),
     }
 }
 
-fn yes_or_no(yes: bool) {
+fn yes_or_no<W: Write>(out: &mut W, yes: bool) -> io::Result<()> {
     if yes {
-        io::write_all(1, b"1");
+        streams::write_all(out, b"1")
     } else {
-        io::write_all(1, b"0");
+        streams::write_all(out, b"0")
     }
 }
 
-fn sector(c: Call) {
-    yes_or_no(geometry::signed::in_sector(point_at(c, 0), dir_at(c, 2), dir_at(c, 4)));
+fn sector<W: Write>(out: &mut W, c: Call) -> io::Result<()> {
+    yes_or_no(
+        out,
+        geometry::signed::in_sector(point_at(c, 0), dir_at(c, 2), dir_at(c, 4)),
+    )
 }
 
 // How many corners a polygon has: the digit that the letter is.
@@ -180,12 +185,12 @@ fn first_inside(poly: &[[f64; 2]], n: usize, p: Point) -> bool {
     false
 }
 
-fn polygon(letter: u8, c: Call) {
+fn polygon<W: Write>(out: &mut W, letter: u8, c: Call) -> io::Result<()> {
     let poly = corners_at(c);
-    yes_or_no(first_inside(&poly, corners(letter), point_at(c, 0)));
+    yes_or_no(out, first_inside(&poly, corners(letter), point_at(c, 0)))
 }
 
-fn arc(c: Call) {
+fn arc<W: Write>(out: &mut W, c: Call) -> io::Result<()> {
     let seg = Seg::Arc {
         c: point_at(c, 0),
         r: c.x[2],
@@ -194,27 +199,27 @@ fn arc(c: Call) {
     };
     let drawn = seg.drawn();
     let points = drawn.points;
-    point(points[0]);
-    point(points[1]);
-    point(points[2]);
-    point(points[3]);
-    point(points[4]);
-    point(points[5]);
-    point(points[6]);
-    point(points[7]);
-    point(seg.start());
-    point(seg.end());
+    point(out, points[0])?;
+    point(out, points[1])?;
+    point(out, points[2])?;
+    point(out, points[3])?;
+    point(out, points[4])?;
+    point(out, points[5])?;
+    point(out, points[6])?;
+    point(out, points[7])?;
+    point(out, seg.start())?;
+    point(out, seg.end())
 }
 
-fn meeting(c: Call) {
+fn meeting<W: Write>(out: &mut W, c: Call) -> io::Result<()> {
     let p = Proximity {
         gap: c.x[0],
         normal: dir_at(c, 1),
         point: point_at(c, 3),
     };
-    proximity(MaybeProximity::SomeProximity(p.reversed()));
-    point(p.on_a());
-    point(p.on_b());
+    proximity(out, MaybeProximity::SomeProximity(p.reversed()))?;
+    point(out, p.on_a())?;
+    point(out, p.on_b())
 }
 
 // How many floats a call has.
@@ -235,45 +240,59 @@ fn floats(letter: u8) -> usize
     }
 }
 
-fn answer(letter: u8, c: Call) {
+fn answer<W: Write>(out: &mut W, letter: u8, c: Call) -> io::Result<()> {
     match letter {
-        b'D' => new_dir(c),
-        b'S' => sector(c),
-        b'A' => arc(c),
-        b'F' => proximity(geometry::signed::disc_on_face(disc_at(c, 0), face_at(c, 7))),
-        b'B' => proximity(geometry::signed::disc_on_disc(disc_at(c, 0), disc_at(c, 7))),
-        b'C' => proximity(geometry::signed::center_on_face(point_at(c, 0), face_at(c, 2))),
-        b'P' => meeting(c),
-        b'H' => dir(dir_at(c, 0).halfway_to(dir_at(c, 2))),
-        b'0'..=b'6' => polygon(letter, c),
-        _ => none(),
+        b'D' => new_dir(out, c)?,
+        b'S' => sector(out, c)?,
+        b'A' => arc(out, c)?,
+        b'F' => proximity(
+            out,
+            geometry::signed::disc_on_face(disc_at(c, 0), face_at(c, 7)),
+        )?,
+        b'B' => proximity(
+            out,
+            geometry::signed::disc_on_disc(disc_at(c, 0), disc_at(c, 7)),
+        )?,
+        b'C' => proximity(
+            out,
+            geometry::signed::center_on_face(point_at(c, 0), face_at(c, 2)),
+        )?,
+        b'P' => meeting(out, c)?,
+        b'H' => dir(out, dir_at(c, 0).halfway_to(dir_at(c, 2)))?,
+        b'0'..=b'6' => polygon(out, letter, c)?,
+        _ => none(out)?,
     }
-    io::write_all(1, b"\n");
+    streams::write_all(out, b"\n")
 }
 
 // Reads n bytes, if there is room for them.
-fn fill(buf: &mut [u8], n: usize) {
+fn fill<R: Read>(input: &mut R, buf: &mut [u8], n: usize) -> io::Result<()> {
     if n <= buf.len() {
-        io::read_full(0, &mut buf[..n]);
+        streams::read_full(input, &mut buf[..n])?;
     }
+    Ok(())
 }
 
 // One line: whether there was one.
-fn replay() -> bool {
+fn replay<R: Read, W: Write>(input: &mut R, out: &mut W) -> io::Result<bool> {
     let mut letter = [0u8; 1];
-    if io::read_full(0, &mut letter) == 0 {
-        return false;
+    if streams::read_full(input, &mut letter)? == 0 {
+        return Ok(false);
     }
     let mut line = [0u8; 240];
     let n = floats(letter[0]) * 17 + 1;
-    fill(&mut line, n);
-    answer(letter[0], call_of(&line));
-    true
+    fill(input, &mut line, n)?;
+    answer(out, letter[0], call_of(&line))?;
+    Ok(true)
 }
 
-fn main() {
-    let mut turns = 100000u64;
-    while turns > 0 && replay() {
-        turns -= 1;
+fn main(rt: HostRuntime) -> io::Result<()> {
+    let mut input = rt.stdin();
+    let mut out = BufWriter::new(rt.alloc(), rt.stdout())?;
+    for _ in 0..100000 {
+        if !replay(&mut input, &mut out)? {
+            break;
+        }
     }
+    out.flush()
 }

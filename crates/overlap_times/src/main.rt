@@ -7,6 +7,8 @@ ghost use Rattle.std.specs.Prelude.{◌≤◌};
 use bodies::pose::{Placement, Pose, Posed};
 use bodies::{Checked, Problem};
 use mechanism::{FloatAnswer, Mechanism, Pairs};
+use std::io;
+use std::io::{BufWriter, Read, Write};
 
 // A number of at most six digits, with one more digit after it.
 fn tens(v: usize, b: u8) -> usize
@@ -52,63 +54,77 @@ fn sum_of(m: Mechanism, q: Pose, turns: usize) -> f64 {
 }
 
 // Six digits and a newline; 0 where there are none.
-fn read_number() -> usize {
+fn read_number<R: Read>(input: &mut R) -> io::Result<usize> {
     let mut head = [0u8; 7];
-    io::read_full(0, &mut head);
-    length_of(head)
+    streams::read_full(input, &mut head)?;
+    Ok(length_of(head))
 }
 
 // Answers requests, at most a thousand of them, until one asks for nothing.
-fn serve(m: Mechanism, q: Pose) {
-    let mut k: usize = 0;
-    while k < 1000 {
-        read_number();
-        let turns = read_number();
-        k += 1;
+fn serve<R: Read, W: Write>(input: &mut R, out: &mut W, m: Mechanism, q: Pose) -> io::Result<()> {
+    for _ in 0..1000 {
+        read_number(input)?;
+        let turns = read_number(input)?;
         if turns == 0 {
-            return;
+            break;
         }
-        io::print_hex(1, ieee::bits::pattern(sum_of(m, q, turns)), 16);
-        io::write_all(1, b"\n");
+        streams::print_hex(out, ieee::bits::pattern(sum_of(m, q, turns)), 16)?;
+        streams::write_all(out, b"\n")?;
+        out.flush()?;
     }
+    Ok(())
 }
 
-fn serve_posed(m: Mechanism, p: Posed) {
+fn serve_posed<R: Read, W: Write>(
+    input: &mut R,
+    out: &mut W,
+    m: Mechanism,
+    p: Posed,
+) -> io::Result<()> {
     let c = p.checked;
     let q = p.pose;
     match c {
-        Checked::Accepted => serve(m, q),
-        Checked::Refused(_) => {}
+        Checked::Accepted => serve(input, out, m, q),
+        Checked::Refused(_) => Ok(()),
     }
 }
 
-fn answer_text(text: &[u8]) {
+fn answer_text<R: Read, W: Write>(input: &mut R, out: &mut W, text: &[u8]) -> io::Result<()> {
     let s = sheet::read(text);
     let m = s.mechanism;
     let e = s.entries;
     let c = s.checked;
     match c {
-        Checked::Accepted => serve_posed(m, sheet::posed::posed(m, e)),
-        Checked::Refused(_) => {}
+        Checked::Accepted => serve_posed(input, out, m, sheet::posed::posed(m, e)),
+        Checked::Refused(_) => Ok(()),
     }
 }
 
 // Reads n bytes, if there is room for them.
-fn fill(buf: &mut [u8], n: usize) {
+fn fill<R: Read>(input: &mut R, buf: &mut [u8], n: usize) -> io::Result<()> {
     if n <= buf.len() {
-        io::read_full(0, &mut buf[..n]);
+        streams::read_full(input, &mut buf[..n])?;
     }
+    Ok(())
 }
 
-fn answer_first(buf: &[u8], n: usize) {
+fn answer_first<R: Read, W: Write>(
+    input: &mut R,
+    out: &mut W,
+    buf: &[u8],
+    n: usize,
+) -> io::Result<()> {
     if n <= buf.len() {
-        answer_text(&buf[..n]);
+        answer_text(input, out, &buf[..n])?;
     }
+    Ok(())
 }
 
-fn main() {
-    let n = read_number();
+fn main(rt: HostRuntime) -> io::Result<()> {
+    let mut input = rt.stdin();
+    let mut out = BufWriter::new(rt.alloc(), rt.stdout())?;
+    let n = read_number(&mut input)?;
     let mut buf = [0u8; 65537];
-    fill(&mut buf, n);
-    answer_first(&buf, n);
+    fill(&mut input, &mut buf, n)?;
+    answer_first(&mut input, &mut out, &buf, n)
 }

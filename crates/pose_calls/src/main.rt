@@ -19,6 +19,8 @@ use geometry::{Dir, Point, Seg};
 use mechanism::pair::{ContactPair, PairGeometry, Surface};
 use mechanism::part::{OutlineSeg, Part, Role, SurfaceRef, Sweep};
 use mechanism::{Mechanism, Outlines, Pairs, Parts};
+use std::io;
+use std::io::{BufWriter, Read, Write};
 
 // The fields of a line.
 #[derive(Clone, Copy)]
@@ -200,47 +202,46 @@ fn lent(s: State) -> [[f64; 3]; 16] {
     q
 }
 
-fn float(x: f64) {
-    io::print_hex(1, ieee::bits::pattern(x), 16);
-    io::write_all(1, b",");
+fn float<W: Write>(out: &mut W, x: f64) -> io::Result<()> {
+    streams::print_hex(out, ieee::bits::pattern(x), 16)?;
+    streams::write_all(out, b",")
 }
 
-fn point(p: Point) {
-    float(p.x);
-    float(p.y);
+fn point<W: Write>(out: &mut W, p: Point) -> io::Result<()> {
+    float(out, p.x)?;
+    float(out, p.y)
 }
 
-fn refusal(p: Problem) {
-    io::write_all(1, b"X,");
-    io::print_decimal(1, p.number() as u64);
-    io::write_all(1, b",");
-    io::print_decimal(1, p.place() as u64);
+fn refusal<W: Write>(out: &mut W, p: Problem) -> io::Result<()> {
+    streams::write_all(out, b"X,")?;
+    streams::print_decimal(out, p.number() as u64)?;
+    streams::write_all(out, b",")?;
+    streams::print_decimal(out, p.place() as u64)
 }
 
-fn point_answer(a: PointAnswer) {
+fn point_answer<W: Write>(out: &mut W, a: PointAnswer) -> io::Result<()> {
     match a {
-        PointAnswer::IsPoint(p) => point(p),
-        PointAnswer::NoPoint(x) => refusal(x),
+        PointAnswer::IsPoint(p) => point(out, p),
+        PointAnswer::NoPoint(x) => refusal(out, x),
     }
 }
 
-fn placement(p: Placement) {
+fn placement<W: Write>(out: &mut W, p: Placement) -> io::Result<()> {
     let o = p.origin;
-    point(o);
-    float(p.cos);
-    float(p.sin);
+    point(out, o)?;
+    float(out, p.cos)?;
+    float(out, p.sin)
 }
 
-fn placements(q: Pose) {
+fn placements<W: Write>(out: &mut W, q: Pose) -> io::Result<()> {
     let n = q.count;
-    let mut i: usize = 0;
-    while i < 16 {
+    for i in 0..16 {
         if i < n {
             let p = q.placement[i];
-            placement(p);
+            placement(out, p)?;
         }
-        i += 1;
     }
+    Ok(())
 }
 
 // The pose for the first n of the lent entries.
@@ -259,17 +260,17 @@ fn posed(s: State) -> bodies::pose::Posed {
     pose_of(mechanism_of(b), &q, n)
 }
 
-fn print_pose(s: State) {
+fn print_pose<W: Write>(out: &mut W, s: State) -> io::Result<()> {
     let r = posed(s);
     let c = r.checked;
     let q = r.pose;
     match c {
-        Checked::Accepted => placements(q),
-        Checked::Refused(x) => refusal(x),
+        Checked::Accepted => placements(out, q),
+        Checked::Refused(x) => refusal(out, x),
     }
 }
 
-fn print_column(s: State, f: Fields) {
+fn print_column<W: Write>(out: &mut W, s: State, f: Fields) -> io::Result<()> {
     let b = s.bodies;
     let r = posed(s);
     let q = r.pose;
@@ -280,10 +281,10 @@ fn print_column(s: State, f: Fields) {
             y: float_of(f.v[2]),
         },
     };
-    point_answer(mechanism_of(b).jacobian_column(q, p, whole(f.v[3])));
+    point_answer(out, mechanism_of(b).jacobian_column(q, p, whole(f.v[3])))
 }
 
-fn print_place(s: State, f: Fields) {
+fn print_place<W: Write>(out: &mut W, s: State, f: Fields) -> io::Result<()> {
     let r = posed(s);
     let q = r.pose;
     let p = MaterialPoint {
@@ -293,7 +294,7 @@ fn print_place(s: State, f: Fields) {
             y: float_of(f.v[2]),
         },
     };
-    point_answer(q.world(p));
+    point_answer(out, q.world(p))
 }
 
 fn pin(f: Fields) -> Joint {
@@ -320,35 +321,36 @@ fn slide(f: Fields) -> Joint {
     }
 }
 
-fn end() {
-    io::write_all(1, b"\n");
+fn end<W: Write>(out: &mut W) -> io::Result<()> {
+    streams::write_all(out, b"\n")
 }
 
 // What a line does to what was read, its answer printed where it asks.
-fn answer(letter: u8, s: State, f: Fields) -> State {
-    match letter {
+fn answer<W: Write>(out: &mut W, letter: u8, s: State, f: Fields) -> io::Result<State> {
+    let next = match letter {
         b'N' => blank_state(whole(f.v[0])),
         b'G' => with_body(s, whole(f.v[0]), Joint::Ground),
         b'R' => with_body(s, whole(f.v[0]), pin(f)),
         b'P' => with_body(s, whole(f.v[0]), slide(f)),
         b'T' => with_entry(s, float_of(f.v[0]), float_of(f.v[1]), float_of(f.v[2])),
         b'Q' => {
-            print_pose(s);
-            end();
+            print_pose(out, s)?;
+            end(out)?;
             s
         }
         b'C' => {
-            print_column(s, f);
-            end();
+            print_column(out, s, f)?;
+            end(out)?;
             s
         }
         b'W' => {
-            print_place(s, f);
-            end();
+            print_place(out, s, f)?;
+            end(out)?;
             s
         }
         _ => s,
-    }
+    };
+    Ok(next)
 }
 
 // How many fields a line has.
@@ -368,37 +370,44 @@ fn field_count(letter: u8) -> usize
 }
 
 // Reads n bytes, if there is room for them.
-fn fill(buf: &mut [u8], n: usize) {
+fn fill<R: Read>(input: &mut R, buf: &mut [u8], n: usize) -> io::Result<()> {
     if n <= buf.len() {
-        io::read_full(0, &mut buf[..n]);
+        streams::read_full(input, &mut buf[..n])?;
     }
+    Ok(())
 }
 
-fn replay(letter: u8, s: State) -> State {
+fn replay<R: Read, W: Write>(
+    input: &mut R,
+    out: &mut W,
+    letter: u8,
+    s: State,
+) -> io::Result<State> {
     let mut line = [0u8; 104];
     let n = field_count(letter) * 17 + 1;
-    fill(&mut line, n);
-    answer(letter, s, fields_of(&line))
+    fill(input, &mut line, n)?;
+    answer(out, letter, s, fields_of(&line))
 }
 
 // The letter of the next line, and 0 at the end.
-fn next_letter() -> u8 {
+fn next_letter<R: Read>(input: &mut R) -> io::Result<u8> {
     let mut letter = [0u8; 1];
-    if io::read_full(0, &mut letter) == 0 {
-        return 0;
+    if streams::read_full(input, &mut letter)? == 0 {
+        return Ok(0);
     }
-    letter[0]
+    Ok(letter[0])
 }
 
-fn main() {
+fn main(rt: HostRuntime) -> io::Result<()> {
+    let mut input = rt.stdin();
+    let mut out = BufWriter::new(rt.alloc(), rt.stdout())?;
     let mut s = blank_state(0);
-    let mut turns = 10000000u64;
-    while turns > 0 {
-        let letter = next_letter();
+    for _ in 0..10000000 {
+        let letter = next_letter(&mut input)?;
         if letter == 0 {
-            return;
+            break;
         }
-        s = replay(letter, s);
-        turns -= 1;
+        s = replay(&mut input, &mut out, letter, s)?;
     }
+    out.flush()
 }

@@ -17,6 +17,8 @@ use mechanism::{FloatAnswer, Mechanism, Pairs, Parts};
 use overlap::prepared::pair_overlap;
 use reading::prepared::read_in;
 use reading::{PairReading, Reading};
+use std::io;
+use std::io::{BufWriter, Read, Write};
 use strips::{ChoiceRow, DiscRow, FaceRow, PartRow, PieceRow, PointRow, SideRow};
 
 // A number of at most six digits, with one more digit after it.
@@ -34,12 +36,12 @@ fn length_of(d: [u8; 7]) -> usize {
     )
 }
 
-fn print_problem(p: Problem) {
-    io::write_all(1, b"X,");
-    io::print_decimal(1, p.number() as u64);
-    io::write_all(1, b",");
-    io::print_decimal(1, p.place() as u64);
-    io::write_all(1, b"\n");
+fn print_problem<W: Write>(out: &mut W, p: Problem) -> io::Result<()> {
+    streams::write_all(out, b"X,")?;
+    streams::print_decimal(out, p.number() as u64)?;
+    streams::write_all(out, b",")?;
+    streams::print_decimal(out, p.place() as u64)?;
+    streams::write_all(out, b"\n")
 }
 
 // ---- one number for many
@@ -215,26 +217,28 @@ fn asked(
     }
 }
 
-fn print_accepted(
+fn print_accepted<W: Write>(
+    out: &mut W,
     r: Reading,
     places: &[Place],
     values: &[Value],
     grad: &[f64],
     slip: &[f64],
     coords: usize,
-) {
+) -> io::Result<()> {
     let n = entries_of(r.count, coords);
     let rows = with_rows(0, places, values, r.count);
     let columns = with_entries(with_entries(rows, grad, n), slip, n);
-    io::write_all(1, b"accepted,");
-    io::print_decimal(1, r.count as u64);
-    io::write_all(1, b",");
-    io::print_decimal(1, with_pairs(columns, r));
-    io::write_all(1, b"\n");
+    streams::write_all(out, b"accepted,")?;
+    streams::print_decimal(out, r.count as u64)?;
+    streams::write_all(out, b",")?;
+    streams::print_decimal(out, with_pairs(columns, r))?;
+    streams::write_all(out, b"\n")
 }
 
 // Reads the prepared description at a pose.
-fn print_reading(
+fn print_reading<W: Write>(
+    out: &mut W,
     bodies: Bodies,
     faces: &[FaceRow],
     fnames: &[PieceRow],
@@ -249,7 +253,7 @@ fn print_reading(
     pairs: usize,
     q: &[Lent],
     margin: f64,
-) {
+) -> io::Result<()> {
     let mut places = [[0usize; 7]; 256];
     let mut values = [[0.0; 5]; 256];
     let mut grad = [0.0; 4096];
@@ -280,8 +284,8 @@ fn print_reading(
     );
     let c = r.checked;
     match c {
-        Checked::Accepted => print_accepted(a, &places, &values, &grad, &slip, bodies.coords),
-        Checked::Refused(p) => print_problem(p),
+        Checked::Accepted => print_accepted(out, a, &places, &values, &grad, &slip, bodies.coords),
+        Checked::Refused(p) => print_problem(out, p),
     }
 }
 
@@ -294,7 +298,13 @@ fn first<'a>(parts: &'a [PartRow], n: usize) -> &'a [PartRow] {
 }
 
 // Prepares the description, which is accepted, in arrays that were prepared for another one, and reads it.
-fn print_prepared(largest: Mechanism, m: Mechanism, margin: f64, q: &[Lent]) {
+fn print_prepared<W: Write>(
+    out: &mut W,
+    largest: Mechanism,
+    m: Mechanism,
+    margin: f64,
+    q: &[Lent],
+) -> io::Result<()> {
     let mut drawn = [[0.0; 2]; 6144];
     let mut sampled = [[0.0; 2]; 13056];
     let mut parts = [[0usize; 5]; 32];
@@ -335,6 +345,7 @@ fn print_prepared(largest: Mechanism, m: Mechanism, margin: f64, q: &[Lent]) {
     let ps = m.parts;
     let pairs = m.pairs;
     print_reading(
+        out,
         bodies,
         &faces,
         &fnames,
@@ -349,7 +360,7 @@ fn print_prepared(largest: Mechanism, m: Mechanism, margin: f64, q: &[Lent]) {
         pairs.count,
         q,
         margin,
-    );
+    )
 }
 
 // The first n entries, or all.
@@ -372,7 +383,7 @@ fn larger(largest: Mechanism, m: Mechanism) -> Mechanism {
 }
 
 // Answers a text, and gives the largest description so far.
-fn answer(largest: Mechanism, text: &[u8]) -> Mechanism {
+fn answer<W: Write>(out: &mut W, largest: Mechanism, text: &[u8]) -> io::Result<Mechanism> {
     let s = sheet::read(text);
     let m = s.mechanism;
     let e = s.entries;
@@ -381,33 +392,40 @@ fn answer(largest: Mechanism, text: &[u8]) -> Mechanism {
     match c {
         Checked::Accepted => {
             print_prepared(
+                out,
                 largest,
                 m,
                 s.margin,
                 first_entries(&sheet::posed::lent(e), n),
-            );
-            larger(largest, m)
+            )?;
+            Ok(larger(largest, m))
         }
         Checked::Refused(p) => {
-            print_problem(p);
-            largest
+            print_problem(out, p)?;
+            Ok(largest)
         }
     }
 }
 
 // Reads n bytes, if there is room for them.
-fn fill(buf: &mut [u8], n: usize) {
+fn fill<R: Read>(input: &mut R, buf: &mut [u8], n: usize) -> io::Result<()> {
     if n <= buf.len() {
-        io::read_full(0, &mut buf[..n]);
+        streams::read_full(input, &mut buf[..n])?;
     }
+    Ok(())
 }
 
 // Answers the text of the first n bytes.
-fn answer_first(largest: Mechanism, buf: &[u8], n: usize) -> Mechanism {
+fn answer_first<W: Write>(
+    out: &mut W,
+    largest: Mechanism,
+    buf: &[u8],
+    n: usize,
+) -> io::Result<Mechanism> {
     if n <= buf.len() {
-        return answer(largest, &buf[..n]);
+        return answer(out, largest, &buf[..n]);
     }
-    largest
+    Ok(largest)
 }
 
 // Whether there was one more text, and the largest description so far.
@@ -418,33 +436,35 @@ struct Turn {
 }
 
 // Reads and answers a text.
-fn next(largest: Mechanism) -> Turn {
+fn next<R: Read, W: Write>(input: &mut R, out: &mut W, largest: Mechanism) -> io::Result<Turn> {
     let mut head = [0u8; 7];
-    if io::read_full(0, &mut head) < 7 {
-        return Turn {
+    if streams::read_full(input, &mut head)? < 7 {
+        return Ok(Turn {
             more: false,
             largest,
-        };
+        });
     }
     let n = length_of(head);
     let mut buf = [0u8; 65537];
-    fill(&mut buf, n);
-    Turn {
+    fill(input, &mut buf, n)?;
+    let largest = answer_first(out, largest, &buf, n)?;
+    Ok(Turn {
         more: true,
-        largest: answer_first(largest, &buf, n),
-    }
+        largest,
+    })
 }
 
-fn main() {
+fn main(rt: HostRuntime) -> io::Result<()> {
+    let mut input = rt.stdin();
+    let mut out = BufWriter::new(rt.alloc(), rt.stdout())?;
     let s = sheet::read(b"");
     let mut largest = s.mechanism;
-    let mut turns = 1000000u64;
-    while turns > 0 {
-        let t = next(largest);
+    for _ in 0..1000000 {
+        let t = next(&mut input, &mut out, largest)?;
         if !t.more {
-            return;
+            break;
         }
         largest = t.largest;
-        turns -= 1;
     }
+    out.flush()
 }

@@ -17,6 +17,8 @@ use mechanism::bearing::{Bearing, HowItBears, MaybeBearing, MaybeSlope};
 use mechanism::rows::{Place, Row, Value, row_from};
 use mechanism::{Mechanism, Pairs};
 use reading::{PairReading, Reading};
+use std::io;
+use std::io::{BufWriter, Read, Write};
 
 // A number of at most six digits, with one more digit after it.
 fn tens(v: usize, b: u8) -> usize
@@ -33,110 +35,111 @@ fn length_of(d: [u8; 7]) -> usize {
     )
 }
 
-fn float(x: f64) {
-    io::print_hex(1, ieee::bits::pattern(x), 16);
-    io::write_all(1, b",");
+fn float<W: Write>(out: &mut W, x: f64) -> io::Result<()> {
+    streams::print_hex(out, ieee::bits::pattern(x), 16)?;
+    streams::write_all(out, b",")
 }
 
-fn number(n: usize) {
-    io::print_decimal(1, n as u64);
-    io::write_all(1, b",");
+fn number<W: Write>(out: &mut W, n: usize) -> io::Result<()> {
+    streams::print_decimal(out, n as u64)?;
+    streams::write_all(out, b",")
 }
 
-fn problem(p: Problem) {
-    io::write_all(1, b"X,");
-    io::print_decimal(1, p.number() as u64);
-    io::write_all(1, b",");
-    io::print_decimal(1, p.place() as u64);
+fn problem<W: Write>(out: &mut W, p: Problem) -> io::Result<()> {
+    streams::write_all(out, b"X,")?;
+    streams::print_decimal(out, p.number() as u64)?;
+    streams::write_all(out, b",")?;
+    streams::print_decimal(out, p.place() as u64)
 }
 
-fn print_problem(p: Problem) {
-    problem(p);
-    io::write_all(1, b"\n");
+fn print_problem<W: Write>(out: &mut W, p: Problem) -> io::Result<()> {
+    problem(out, p)?;
+    streams::write_all(out, b"\n")
 }
 
-fn point(p: Point) {
-    float(p.x);
-    float(p.y);
+fn point<W: Write>(out: &mut W, p: Point) -> io::Result<()> {
+    float(out, p.x)?;
+    float(out, p.y)
 }
 
-fn how(h: HowItBears) {
+fn how<W: Write>(out: &mut W, h: HowItBears) -> io::Result<()> {
     match h {
-        HowItBears::Flat => io::write_all(1, b"F,"),
-        HowItBears::StopEdge => io::write_all(1, b"E,"),
-        HowItBears::KeyCorner => io::write_all(1, b"C,"),
-    };
-}
-
-fn slope(s: MaybeSlope) {
-    match s {
-        MaybeSlope::SomeSlope(x) => float(x),
-        MaybeSlope::NoSlope => {
-            io::write_all(1, b"N,");
-        }
+        HowItBears::Flat => streams::write_all(out, b"F,"),
+        HowItBears::StopEdge => streams::write_all(out, b"E,"),
+        HowItBears::KeyCorner => streams::write_all(out, b"C,"),
     }
 }
 
-fn print_bearing(b: MaybeBearing) {
+fn slope<W: Write>(out: &mut W, s: MaybeSlope) -> io::Result<()> {
+    match s {
+        MaybeSlope::SomeSlope(x) => float(out, x),
+        MaybeSlope::NoSlope => { streams::write_all(out, b"N,") }
+    }
+}
+
+fn print_bearing<W: Write>(out: &mut W, b: MaybeBearing) -> io::Result<()> {
     match b {
         MaybeBearing::SomeBearing(x) => {
             let h = x.how;
             let p = x.point;
             let s = x.slope;
-            how(h);
-            float(x.gap);
-            point(p);
-            slope(s);
+            how(out, h)?;
+            float(out, x.gap)?;
+            point(out, p)?;
+            slope(out, s)
         }
-        MaybeBearing::NoBearing => {
-            io::write_all(1, b"N,");
-        }
+        MaybeBearing::NoBearing => { streams::write_all(out, b"N,") }
     }
 }
 
-fn print_row(place: Place, value: Value) {
+fn print_row<W: Write>(out: &mut W, place: Place, value: Value) -> io::Result<()> {
     let r = row_from(place, value);
-    let mut k: usize = 0;
-    while k < 7 {
-        number(place[k]);
-        k += 1;
+    for k in 0..7 {
+        number(out, place[k])?;
     }
     let n = r.normal;
     let p = r.point;
-    float(r.gap);
-    float(n.x);
-    float(n.y);
-    point(p);
-    point(r.on_a());
-    point(r.on_b());
+    float(out, r.gap)?;
+    float(out, n.x)?;
+    float(out, n.y)?;
+    point(out, p)?;
+    point(out, r.on_a())?;
+    point(out, r.on_b())
 }
 
 // Up to sixteen numbers, or the refusal.
-fn print_entries(a: EntriesAnswer) {
+fn print_entries<W: Write>(out: &mut W, a: EntriesAnswer) -> io::Result<()> {
     let c = a.checked;
     let n = a.count;
     match c {
         Checked::Accepted => {
-            let mut k: usize = 0;
-            while k < 16 {
+            for k in 0..16 {
                 if k < n {
-                    float(a.entry[k]);
+                    float(out, a.entry[k])?;
                 }
-                k += 1;
             }
+            Ok(())
         }
-        Checked::Refused(p) => problem(p),
+        Checked::Refused(p) => problem(out, p),
     }
 }
 
-fn print_columns(grad: &[f64], slip: &[f64], coords: usize, n: usize, i: usize) {
-    print_entries(governing::row_entries(grad, coords, n, i));
-    print_entries(governing::row_entries(slip, coords, n, i));
-    io::write_all(1, b"\n");
+fn print_columns<W: Write>(
+    out: &mut W,
+    grad: &[f64],
+    slip: &[f64],
+    coords: usize,
+    n: usize,
+    i: usize,
+) -> io::Result<()> {
+    print_entries(out, governing::row_entries(grad, coords, n, i))?;
+    print_entries(out, governing::row_entries(slip, coords, n, i))?;
+    streams::write_all(out, b"\n")
 }
 
 // Row i, where there is one.
-fn print_row_at(
+fn print_row_at<W: Write>(
+    out: &mut W,
     places: &[Place],
     values: &[Value],
     grad: &[f64],
@@ -144,102 +147,111 @@ fn print_row_at(
     coords: usize,
     n: usize,
     i: usize,
-) {
+) -> io::Result<()> {
     if i < n {
         if i < places.len() {
             if i < values.len() {
-                print_row(places[i], values[i]);
-                print_columns(grad, slip, coords, n, i);
+                print_row(out, places[i], values[i])?;
+                print_columns(out, grad, slip, coords, n, i)?;
             }
         }
     }
+    Ok(())
 }
 
-fn print_rows(
+fn print_rows<W: Write>(
+    out: &mut W,
     places: &[Place],
     values: &[Value],
     grad: &[f64],
     slip: &[f64],
     coords: usize,
     n: usize,
-) {
-    let mut i: usize = 0;
-    while i < 256 {
-        print_row_at(places, values, grad, slip, coords, n, i);
-        i += 1;
+) -> io::Result<()> {
+    for i in 0..256 {
+        print_row_at(out, places, values, grad, slip, coords, n, i)?;
     }
-    io::write_all(1, b"past,");
-    print_columns(grad, slip, coords, n, n);
+    streams::write_all(out, b"past,")?;
+    print_columns(out, grad, slip, coords, n, n)
 }
 
-fn print_pair(p: PairReading) {
-    float(p.overlap);
+fn print_pair<W: Write>(out: &mut W, p: PairReading) -> io::Result<()> {
+    float(out, p.overlap)?;
     // Of `face_overlap` both zeros are alike.
-    float(plain_zero(p.face_overlap));
+    float(out, plain_zero(p.face_overlap))?;
     let b = p.bearing;
-    print_bearing(b);
-    io::write_all(1, b"\n");
+    print_bearing(out, b)?;
+    streams::write_all(out, b"\n")
 }
 
-fn print_pairs(r: Reading) {
+fn print_pairs<W: Write>(out: &mut W, r: Reading) -> io::Result<()> {
     let n = r.pairs;
-    let mut i: usize = 0;
-    while i < 16 {
+    for i in 0..16 {
         if i < n {
             let p = r.pair[i];
-            print_pair(p);
+            print_pair(out, p)?;
         }
-        i += 1;
     }
+    Ok(())
 }
 
-fn print_governing(places: &[Place], values: &[Value], n: usize, pair: usize) {
+fn print_governing<W: Write>(
+    out: &mut W,
+    places: &[Place],
+    values: &[Value],
+    n: usize,
+    pair: usize,
+) -> io::Result<()> {
     let found = governing::governing_in(places, values, n, pair);
     match found {
-        MaybeRow::SomeRow(i) => number(i),
+        MaybeRow::SomeRow(i) => number(out, i)?,
         MaybeRow::NoRow => {
-            io::write_all(1, b"N,");
+            streams::write_all(out, b"N,")?;
         }
     }
     let least = governing::gap_in(places, values, n, pair);
     match least {
-        MaybeGap::SomeGap(x) => float(x),
-        MaybeGap::NoGap => {
-            io::write_all(1, b"N,");
-        }
+        MaybeGap::SomeGap(x) => float(out, x),
+        MaybeGap::NoGap => { streams::write_all(out, b"N,") }
     }
 }
 
-fn print_governed(
+fn print_governed<W: Write>(
+    out: &mut W,
     m: Mechanism,
     q: Pose,
     places: &[Place],
     values: &[Value],
     n: usize,
     pair: usize,
-) {
-    print_governing(places, values, n, pair);
+) -> io::Result<()> {
+    print_governing(out, places, values, n, pair)?;
     let a = row_records::bearing_in(m, q, places, values, n, pair);
     let c = a.checked;
     let b = a.bearing;
     match c {
-        Checked::Accepted => print_bearing(b),
-        Checked::Refused(p) => problem(p),
+        Checked::Accepted => print_bearing(out, b),
+        Checked::Refused(p) => problem(out, p),
     }
 }
 
 // The governing row, its gap and the bearing of each pair, and of the number behind the last.
-fn print_all_governed(m: Mechanism, q: Pose, places: &[Place], values: &[Value], n: usize) {
+fn print_all_governed<W: Write>(
+    out: &mut W,
+    m: Mechanism,
+    q: Pose,
+    places: &[Place],
+    values: &[Value],
+    n: usize,
+) -> io::Result<()> {
     let pairs = m.pairs;
     let count = pairs.count;
-    let mut i: usize = 0;
-    while i < 17 {
+    for i in 0..17 {
         if i <= count {
-            print_governed(m, q, places, values, n, i);
+            print_governed(out, m, q, places, values, n, i)?;
         }
-        i += 1;
     }
-    io::write_all(1, b"\n");
+    streams::write_all(out, b"\n")
 }
 
 // Rows i and j in each other's place.
@@ -278,16 +290,23 @@ fn spoil(values: &mut [Value]) {
     }
 }
 
-fn print_accepted(m: Mechanism, q: Pose, places: &mut [Place], values: &mut [Value], r: Reading) {
-    print_pairs(r);
-    print_all_governed(m, q, places, values, r.count);
+fn print_accepted<W: Write>(
+    out: &mut W,
+    m: Mechanism,
+    q: Pose,
+    places: &mut [Place],
+    values: &mut [Value],
+    r: Reading,
+) -> io::Result<()> {
+    print_pairs(out, r)?;
+    print_all_governed(out, m, q, places, values, r.count)?;
     turn_round(places, values, r.count);
-    print_all_governed(m, q, places, values, r.count);
+    print_all_governed(out, m, q, places, values, r.count)?;
     spoil(values);
-    print_all_governed(m, q, places, values, r.count);
+    print_all_governed(out, m, q, places, values, r.count)
 }
 
-fn print_reading(m: Mechanism, q: Pose, margin: f64) {
+fn print_reading<W: Write>(out: &mut W, m: Mechanism, q: Pose, margin: f64) -> io::Result<()> {
     let mut places = [[0usize; 7]; 256];
     let mut values = [[0.0; 5]; 256];
     let mut grad = [0.0; 4096];
@@ -297,69 +316,72 @@ fn print_reading(m: Mechanism, q: Pose, margin: f64) {
     match c {
         Checked::Accepted => {
             let b = m.bodies;
-            io::write_all(1, b"accepted,");
-            number(r.count);
-            io::write_all(1, b"\n");
-            print_rows(&places, &values, &grad, &slip, b.coords, r.count);
-            print_accepted(m, q, &mut places, &mut values, r);
+            streams::write_all(out, b"accepted,")?;
+            number(out, r.count)?;
+            streams::write_all(out, b"\n")?;
+            print_rows(out, &places, &values, &grad, &slip, b.coords, r.count)?;
+            print_accepted(out, m, q, &mut places, &mut values, r)
         }
-        Checked::Refused(p) => print_problem(p),
+        Checked::Refused(p) => print_problem(out, p),
     }
 }
 
-fn print_posed(m: Mechanism, p: Posed, margin: f64) {
+fn print_posed<W: Write>(out: &mut W, m: Mechanism, p: Posed, margin: f64) -> io::Result<()> {
     let c = p.checked;
     let q = p.pose;
     match c {
-        Checked::Accepted => print_reading(m, q, margin),
-        Checked::Refused(x) => print_problem(x),
+        Checked::Accepted => print_reading(out, m, q, margin),
+        Checked::Refused(x) => print_problem(out, x),
     }
 }
 
-fn answer(text: &[u8]) {
+fn answer<W: Write>(out: &mut W, text: &[u8]) -> io::Result<()> {
     let s = sheet::read(text);
     let m = s.mechanism;
     let e = s.entries;
     let c = s.checked;
     match c {
-        Checked::Accepted => print_posed(m, sheet::posed::posed(m, e), s.margin),
-        Checked::Refused(p) => print_problem(p),
+        Checked::Accepted => print_posed(out, m, sheet::posed::posed(m, e), s.margin),
+        Checked::Refused(p) => print_problem(out, p),
     }
 }
 
 // Reads n bytes, if there is room for them.
-fn fill(buf: &mut [u8], n: usize) {
+fn fill<R: Read>(input: &mut R, buf: &mut [u8], n: usize) -> io::Result<()> {
     if n <= buf.len() {
-        io::read_full(0, &mut buf[..n]);
+        streams::read_full(input, &mut buf[..n])?;
     }
+    Ok(())
 }
 
 // Answers the text of the first n bytes.
-fn answer_first(buf: &[u8], n: usize) {
+fn answer_first<W: Write>(out: &mut W, buf: &[u8], n: usize) -> io::Result<()> {
     if n <= buf.len() {
-        answer(&buf[..n]);
+        answer(out, &buf[..n])?;
     }
+    Ok(())
 }
 
 // Reads and answers a text; false at the end of the input.
-fn next() -> bool {
+fn next<R: Read, W: Write>(input: &mut R, out: &mut W) -> io::Result<bool> {
     let mut head = [0u8; 7];
-    if io::read_full(0, &mut head) < 7 {
-        return false;
+    if streams::read_full(input, &mut head)? < 7 {
+        return Ok(false);
     }
     let n = length_of(head);
     let mut buf = [0u8; 65537];
-    fill(&mut buf, n);
-    answer_first(&buf, n);
-    true
+    fill(input, &mut buf, n)?;
+    answer_first(out, &buf, n)?;
+    Ok(true)
 }
 
-fn main() {
-    let mut turns = 1000000u64;
-    while turns > 0 {
-        if !next() {
-            return;
+fn main(rt: HostRuntime) -> io::Result<()> {
+    let mut input = rt.stdin();
+    let mut out = BufWriter::new(rt.alloc(), rt.stdout())?;
+    for _ in 0..1000000 {
+        if !next(&mut input, &mut out)? {
+            break;
         }
-        turns -= 1;
     }
+    out.flush()
 }

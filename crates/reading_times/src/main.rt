@@ -12,6 +12,8 @@ use mechanism::{FloatAnswer, Mechanism, Pairs, Parts};
 use overlap::prepared::pair_overlap;
 use reading::prepared::read_in;
 use reading::{PairReading, Reading};
+use std::io;
+use std::io::{BufWriter, Read, Write};
 use strips::{ChoiceRow, DiscRow, FaceRow, PartRow, PieceRow, PointRow, SideRow};
 
 // A number of at most six digits, with one more digit after it.
@@ -30,17 +32,18 @@ fn length_of(d: [u8; 7]) -> usize {
 }
 
 // Six digits and a newline; 0 where there are none.
-fn read_number() -> usize {
+fn read_number<R: Read>(input: &mut R) -> io::Result<usize> {
     let mut head = [0u8; 7];
-    io::read_full(0, &mut head);
-    length_of(head)
+    streams::read_full(input, &mut head)?;
+    Ok(length_of(head))
 }
 
 // Reads n bytes, if there is room for them.
-fn fill(buf: &mut [u8], n: usize) {
+fn fill<R: Read>(input: &mut R, buf: &mut [u8], n: usize) -> io::Result<()> {
     if n <= buf.len() {
-        io::read_full(0, &mut buf[..n]);
+        streams::read_full(input, &mut buf[..n])?;
     }
+    Ok(())
 }
 
 fn gap(b: MaybeBearing) -> f64 {
@@ -172,13 +175,16 @@ fn first_entries<'a>(q: &'a [Lent], n: usize) -> &'a [Lent] {
     q
 }
 
-fn print_sum(sum: f64) {
-    io::print_hex(1, ieee::bits::pattern(sum), 16);
-    io::write_all(1, b"\n");
+fn print_sum<W: Write>(out: &mut W, sum: f64) -> io::Result<()> {
+    streams::print_hex(out, ieee::bits::pattern(sum), 16)?;
+    streams::write_all(out, b"\n")?;
+    out.flush()
 }
 
 // Answers requests, at most a thousand of them, until one asks for nothing.
-fn serve(
+fn serve<R: Read, W: Write>(
+    input: &mut R,
+    out: &mut W,
     bodies: Bodies,
     faces: &[FaceRow],
     fnames: &[PieceRow],
@@ -193,32 +199,43 @@ fn serve(
     pairs: usize,
     q: &[Lent],
     margin: f64,
-) {
+) -> io::Result<()> {
     let posed = bodies.pose(q);
     let pose = posed.pose;
-    let mut k: usize = 0;
-    while k < 1000 {
-        let what = read_number();
-        let turns = read_number();
-        k += 1;
+    for _ in 0..1000 {
+        let what = read_number(input)?;
+        let turns = read_number(input)?;
         if turns == 0 {
-            return;
+            break;
         }
         if what == 1 {
-            print_sum(overlaps_of(
-                turns, bodies, sides, centers, choices, drawn, sampled, parts, pairs, pose,
-            ));
+            print_sum(
+                out,
+                overlaps_of(
+                    turns, bodies, sides, centers, choices, drawn, sampled, parts, pairs, pose,
+                ),
+            )?;
         } else {
-            print_sum(sum_of(
-                turns, bodies, faces, fnames, discs, dnames, sides, centers, choices, drawn,
-                sampled, parts, pairs, q, margin,
-            ));
+            print_sum(
+                out,
+                sum_of(
+                    turns, bodies, faces, fnames, discs, dnames, sides, centers, choices, drawn,
+                    sampled, parts, pairs, q, margin,
+                ),
+            )?;
         }
     }
+    Ok(())
 }
 
 // Prepares the description and answers requests.
-fn answer(m: Mechanism, margin: f64, q: &[Lent]) {
+fn answer<R: Read, W: Write>(
+    input: &mut R,
+    out: &mut W,
+    m: Mechanism,
+    margin: f64,
+    q: &[Lent],
+) -> io::Result<()> {
     let mut drawn = [[0.0; 2]; 6144];
     let mut sampled = [[0.0; 2]; 13056];
     let mut parts = [[0usize; 5]; 32];
@@ -246,6 +263,8 @@ fn answer(m: Mechanism, margin: f64, q: &[Lent]) {
     let ps = m.parts;
     let pairs = m.pairs;
     serve(
+        input,
+        out,
         bodies,
         &faces,
         &fnames,
@@ -260,30 +279,44 @@ fn answer(m: Mechanism, margin: f64, q: &[Lent]) {
         pairs.count,
         q,
         margin,
-    );
+    )
 }
 
-fn answer_text(text: &[u8]) {
+fn answer_text<R: Read, W: Write>(input: &mut R, out: &mut W, text: &[u8]) -> io::Result<()> {
     let s = sheet::read(text);
     let m = s.mechanism;
     let e = s.entries;
     let n = e.count;
     let c = s.checked;
     match c {
-        Checked::Accepted => answer(m, s.margin, first_entries(&sheet::posed::lent(e), n)),
-        Checked::Refused(_) => {}
+        Checked::Accepted => answer(
+            input,
+            out,
+            m,
+            s.margin,
+            first_entries(&sheet::posed::lent(e), n),
+        ),
+        Checked::Refused(_) => Ok(()),
     }
 }
 
-fn answer_first(buf: &[u8], n: usize) {
+fn answer_first<R: Read, W: Write>(
+    input: &mut R,
+    out: &mut W,
+    buf: &[u8],
+    n: usize,
+) -> io::Result<()> {
     if n <= buf.len() {
-        answer_text(&buf[..n]);
+        answer_text(input, out, &buf[..n])?;
     }
+    Ok(())
 }
 
-fn main() {
-    let n = read_number();
+fn main(rt: HostRuntime) -> io::Result<()> {
+    let mut input = rt.stdin();
+    let mut out = BufWriter::new(rt.alloc(), rt.stdout())?;
+    let n = read_number(&mut input)?;
     let mut buf = [0u8; 65537];
-    fill(&mut buf, n);
-    answer_first(&buf, n);
+    fill(&mut input, &mut buf, n)?;
+    answer_first(&mut input, &mut out, &buf, n)
 }

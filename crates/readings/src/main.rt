@@ -1,10 +1,12 @@
 // Reads a sheet text from standard input and prints its listing (document 01, "The sheet text").
 #![tactic(auto)]
 
-fn main() {
+use std::io;
+
+fn main(rt: HostRuntime) -> io::Result<()> {
     let mut text = [0u8; 65537];
-    let n = io::read_full(0, &mut text);
+    let n = streams::read_full(&mut rt.stdin(), &mut text)?;
     let mut out = [0u8; 192352];
     let k = listing::whole::listing(&text[..n], &mut out);
-    io::write_all(1, &out[..k]);
+    streams::write_all(&mut rt.stdout(), &out[..k])
 }

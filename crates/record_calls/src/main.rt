@@ -6,6 +6,8 @@
 #![tactic(auto)]
 
 use row_exports::{sewqirun_bearing_record, sewqirun_gap_record, sewqirun_governing_record};
+use std::io;
+use std::io::{BufWriter, Read, Write};
 use text::fields::{field, real_at};
 
 // The number that decimal digits say, of the last six of them.
@@ -44,115 +46,153 @@ fn value_of(line: &[u8]) -> [f64; 5] {
 }
 
 // A comma behind it.
-fn print_number(n: usize) {
-    io::print_decimal(1, n as u64);
-    io::write_all(1, b",");
+fn print_number<W: Write>(out: &mut W, n: usize) -> io::Result<()> {
+    streams::print_decimal(out, n as u64)?;
+    streams::write_all(out, b",")
 }
 
-fn print_float(x: f64) {
-    io::print_hex(1, ieee::bits::pattern(x), 16);
-    io::write_all(1, b",");
+fn print_float<W: Write>(out: &mut W, x: f64) -> io::Result<()> {
+    streams::print_hex(out, ieee::bits::pattern(x), 16)?;
+    streams::write_all(out, b",")
 }
 
-fn print_answer(text: &[u8], places: &[[usize; 7]], values: &[[f64; 5]], pair: usize) {
-    print_number(pair);
-    print_number(sewqirun_governing_record(places, values, pair));
-    print_float(sewqirun_gap_record(places, values, pair, 0.375));
-    let mut out = [0.0; 4];
-    print_number(sewqirun_bearing_record(&mut out, text, places, values, pair, 0.375));
-    print_float(out[0]);
-    print_float(out[1]);
-    print_float(out[2]);
-    print_float(out[3]);
-    io::write_all(1, b"\n");
+fn print_answer<W: Write>(
+    out: &mut W,
+    text: &[u8],
+    places: &[[usize; 7]],
+    values: &[[f64; 5]],
+    pair: usize,
+) -> io::Result<()> {
+    print_number(out, pair)?;
+    print_number(out, sewqirun_governing_record(places, values, pair))?;
+    print_float(out, sewqirun_gap_record(places, values, pair, 0.375))?;
+    let mut bearing = [0.0; 4];
+    print_number(
+        out,
+        sewqirun_bearing_record(&mut bearing, text, places, values, pair, 0.375),
+    )?;
+    print_float(out, bearing[0])?;
+    print_float(out, bearing[1])?;
+    print_float(out, bearing[2])?;
+    print_float(out, bearing[3])?;
+    streams::write_all(out, b"\n")
 }
 
-fn print_answers(text: &[u8], places: &[[usize; 7]], values: &[[f64; 5]]) {
-    let mut pair: usize = 0;
-    while pair < 17 {
-        print_answer(text, places, values, pair);
-        pair += 1;
+fn print_answers<W: Write>(
+    out: &mut W,
+    text: &[u8],
+    places: &[[usize; 7]],
+    values: &[[f64; 5]],
+) -> io::Result<()> {
+    for pair in 0..17 {
+        print_answer(out, text, places, values, pair)?;
     }
-    print_answer(text, places, values, 65535);
+    print_answer(out, text, places, values, 65535)
 }
 
 // The answers by the first n records.
-fn print_first(text: &[u8], places: &[[usize; 7]], values: &[[f64; 5]], n: usize) {
+fn print_first<W: Write>(
+    out: &mut W,
+    text: &[u8],
+    places: &[[usize; 7]],
+    values: &[[f64; 5]],
+    n: usize,
+) -> io::Result<()> {
     if n <= places.len() {
         if n <= values.len() {
-            print_answers(text, &places[..n], &values[..n]);
+            print_answers(out, text, &places[..n], &values[..n])?;
         }
     }
+    Ok(())
 }
 
 // Reads a record's line, without the newline behind it.
-fn read_line() -> [u8; 127] {
+fn read_line<R: Read>(input: &mut R) -> io::Result<[u8; 127]> {
     let mut line = [0u8; 127];
     let mut end = [0u8; 1];
-    io::read_full(0, &mut line);
-    io::read_full(0, &mut end);
-    line
+    streams::read_full(input, &mut line)?;
+    streams::read_full(input, &mut end)?;
+    Ok(line)
 }
 
 // Reads the record i, if there is room for it.
-fn read_record(places: &mut [[usize; 7]], values: &mut [[f64; 5]], i: usize) {
-    let line = read_line();
+fn read_record<R: Read>(
+    input: &mut R,
+    places: &mut [[usize; 7]],
+    values: &mut [[f64; 5]],
+    i: usize,
+) -> io::Result<()> {
+    let line = read_line(input)?;
     if i < places.len() {
         if i < values.len() {
             places[i] = place_of(&line);
             values[i] = value_of(&line);
         }
     }
+    Ok(())
 }
 
-fn read_records(places: &mut [[usize; 7]], values: &mut [[f64; 5]], n: usize) {
-    let mut i: usize = 0;
-    while i < n {
-        read_record(places, values, i);
-        i += 1;
+fn read_records<R: Read>(
+    input: &mut R,
+    places: &mut [[usize; 7]],
+    values: &mut [[f64; 5]],
+    n: usize,
+) -> io::Result<()> {
+    for i in 0..n {
+        read_record(input, places, values, i)?;
     }
+    Ok(())
 }
 
 // Reads a number of six digits and the newline behind it; 1000000 at the end of the input.
-fn read_number() -> usize {
+fn read_number<R: Read>(input: &mut R) -> io::Result<usize> {
     let mut digits = [0u8; 6];
     let mut end = [0u8; 1];
-    if io::read_full(0, &mut digits) < 6 {
-        return 1000000;
+    if streams::read_full(input, &mut digits)? < 6 {
+        return Ok(1000000);
     }
-    io::read_full(0, &mut end);
-    whole(&digits)
+    streams::read_full(input, &mut end)?;
+    Ok(whole(&digits))
 }
 
 // Reads and answers the records behind a text.
-fn answer(text: &[u8]) {
-    let n = read_number();
+fn answer<R: Read, W: Write>(input: &mut R, out: &mut W, text: &[u8]) -> io::Result<()> {
+    let n = read_number(input)?;
     let mut places = [[0usize; 7]; 64];
     let mut values = [[0.0; 5]; 64];
-    read_records(&mut places, &mut values, n);
-    print_first(text, &places, &values, n);
+    read_records(input, &mut places, &mut values, n)?;
+    print_first(out, text, &places, &values, n)
 }
 
 // Reads a text of n bytes and answers what stands behind it; false where there is no room for it.
-fn answer_text(buf: &mut [u8], n: usize) -> bool {
+fn answer_text<R: Read, W: Write>(
+    input: &mut R,
+    out: &mut W,
+    buf: &mut [u8],
+    n: usize,
+) -> io::Result<bool> {
     if n <= buf.len() {
-        io::read_full(0, &mut buf[..n]);
-        answer(&buf[..n]);
-        return true;
+        streams::read_full(input, &mut buf[..n])?;
+        answer(input, out, &buf[..n])?;
+        return Ok(true);
     }
-    false
+    Ok(false)
 }
 
 // Reads and answers a frame; false at the end of the input.
-fn next() -> bool {
-    let n = read_number();
+fn next<R: Read, W: Write>(input: &mut R, out: &mut W) -> io::Result<bool> {
+    let n = read_number(input)?;
     let mut buf = [0u8; 65537];
-    answer_text(&mut buf, n)
+    answer_text(input, out, &mut buf, n)
 }
 
-fn main() {
-    let mut turns = 100000u64;
-    while turns > 0 && next() {
-        turns -= 1;
+fn main(rt: HostRuntime) -> io::Result<()> {
+    let mut input = rt.stdin();
+    let mut out = BufWriter::new(rt.alloc(), rt.stdout())?;
+    for _ in 0..100000 {
+        if !next(&mut input, &mut out)? {
+            break;
+        }
     }
+    out.flush()
 }

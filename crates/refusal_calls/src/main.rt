@@ -13,39 +13,37 @@ use prepared_rows::rows_in;
 use reading::prepared::read_in;
 use sheet::Entries;
 use sheet::posed::LentEntries;
+use std::io;
+use std::io::{BufWriter, Write};
 
-fn print_checked(c: Checked) {
+fn print_checked<W: Write>(out: &mut W, c: Checked) -> io::Result<()> {
     match c {
-        Checked::Accepted => {
-            io::write_all(1, b"accepted\n");
-        }
-        Checked::Refused(p) => print_problem(p),
+        Checked::Accepted => { streams::write_all(out, b"accepted\n") }
+        Checked::Refused(p) => print_problem(out, p),
     }
 }
 
-fn print_problem(p: Problem) {
-    io::write_all(1, b"X,");
-    io::print_decimal(1, p.number() as u64);
-    io::write_all(1, b",");
-    io::print_decimal(1, p.place() as u64);
-    io::write_all(1, b"\n");
+fn print_problem<W: Write>(out: &mut W, p: Problem) -> io::Result<()> {
+    streams::write_all(out, b"X,")?;
+    streams::print_decimal(out, p.number() as u64)?;
+    streams::write_all(out, b",")?;
+    streams::print_decimal(out, p.place() as u64)?;
+    streams::write_all(out, b"\n")
 }
 
-fn print_answer(a: FloatAnswer) {
+fn print_answer<W: Write>(out: &mut W, a: FloatAnswer) -> io::Result<()> {
     match a {
-        FloatAnswer::IsFloat(_) => {
-            io::write_all(1, b"accepted\n");
-        }
-        FloatAnswer::NoFloat(p) => print_problem(p),
+        FloatAnswer::IsFloat(_) => { streams::write_all(out, b"accepted\n") }
+        FloatAnswer::NoFloat(p) => print_problem(out, p),
     }
 }
 
 // The pose for so many of the entries.
-fn print_posed(m: Mechanism, e: Entries, count: usize) {
+fn print_posed<W: Write>(out: &mut W, m: Mechanism, e: Entries, count: usize) -> io::Result<()> {
     let entry = e.entry;
     let p = sheet::posed::posed(m, Entries { count, entry });
     let c = p.checked;
-    print_checked(c);
+    print_checked(out, c)
 }
 
 // The bodies, of which the first is a slide along (x, y).
@@ -68,7 +66,7 @@ fn with_slide(b: Bodies, parent: usize, x: f64, y: f64) -> Bodies {
 }
 
 // A reading of bodies without pairs.
-fn print_read(b: Bodies, q: &[Lent]) {
+fn print_read<W: Write>(out: &mut W, b: Bodies, q: &[Lent]) -> io::Result<()> {
     let numbers = [[0usize; 3]; 1];
     let sides = [[0usize; 7]; 1];
     let choices = [[0u8; 32]; 1];
@@ -99,11 +97,11 @@ fn print_read(b: Bodies, q: &[Lent]) {
         &mut slip,
     );
     let c = r.checked;
-    print_checked(c);
+    print_checked(out, c)
 }
 
 // The rows of bodies without pairs.
-fn print_rows(b: Bodies, q: Pose) {
+fn print_rows<W: Write>(out: &mut W, b: Bodies, q: Pose) -> io::Result<()> {
     let numbers = [[0usize; 3]; 1];
     let sides = [[0usize; 7]; 1];
     let choices = [[0u8; 32]; 1];
@@ -133,11 +131,11 @@ fn print_rows(b: Bodies, q: Pose) {
         &mut slip,
     );
     let c = r.checked;
-    print_checked(c);
+    print_checked(out, c)
 }
 
 // The overlap of pair 0 of one.
-fn print_overlap(b: Bodies, q: Pose) {
+fn print_overlap<W: Write>(out: &mut W, b: Bodies, q: Pose) -> io::Result<()> {
     let points = [[0.0; 2]; 1];
     let a = pair_overlap(
         b,
@@ -151,57 +149,57 @@ fn print_overlap(b: Bodies, q: Pose) {
         q,
         0,
     );
-    print_answer(a);
+    print_answer(out, a)
 }
 
 // All calls that take bodies, the pose that was placed before among what they are given.
-fn print_calls(b: Bodies, q: &[Lent], placed: Pose) {
+fn print_calls<W: Write>(out: &mut W, b: Bodies, q: &[Lent], placed: Pose) -> io::Result<()> {
     let p = b.pose(q);
     let c = p.checked;
-    print_checked(c);
-    print_read(b, q);
-    print_rows(b, placed);
-    print_overlap(b, placed);
+    print_checked(out, c)?;
+    print_read(out, b, q)?;
+    print_rows(out, b, placed)?;
+    print_overlap(out, b, placed)
 }
 
 // The same with all sixteen entries, and with fifteen and a pose of no bodies.
-fn print_both(b: Bodies, q: LentEntries, placed: Pose) {
+fn print_both<W: Write>(out: &mut W, b: Bodies, q: LentEntries, placed: Pose) -> io::Result<()> {
     let placement = placed.placement;
-    print_calls(b, &q, placed);
+    print_calls(out, b, &q, placed)?;
     print_calls(
+        out,
         b,
         &q[..15],
         Pose {
             count: 0,
             placement,
         },
-    );
+    )
 }
 
-fn answer(m: Mechanism, e: Entries) {
-    print_posed(m, e, 16);
-    print_posed(m, e, 15);
-    print_posed(m, e, 17);
-    print_posed(m, e, 1000);
+fn answer<W: Write>(out: &mut W, m: Mechanism, e: Entries) -> io::Result<()> {
+    print_posed(out, m, e, 16)?;
+    print_posed(out, m, e, 15)?;
+    print_posed(out, m, e, 17)?;
+    print_posed(out, m, e, 1000)?;
     let b = m.bodies;
     let q = sheet::posed::lent(e);
     let p = b.pose(&q);
     let placed = p.pose;
     let nan = 0.0 / 0.0;
-    print_both(b, q, placed);
-    print_both(with_slide(b, 0, 0.0, 0.0), q, placed);
-    print_both(with_slide(b, 0, nan, 0.0), q, placed);
-    print_both(with_slide(b, 1, 0.0, 0.0), q, placed);
+    print_both(out, b, q, placed)?;
+    print_both(out, with_slide(b, 0, 0.0, 0.0), q, placed)?;
+    print_both(out, with_slide(b, 0, nan, 0.0), q, placed)?;
+    print_both(out, with_slide(b, 1, 0.0, 0.0), q, placed)
 }
 
-fn main() {
+fn main(rt: HostRuntime) -> io::Result<()> {
     let mut buf = [0u8; 4096];
-    let n = io::read_full(0, &mut buf);
-    if 4096 < n {
-        return;
-    }
+    let n = streams::read_full(&mut rt.stdin(), &mut buf)?;
     let s = sheet::read(&buf[..n]);
     let m = s.mechanism;
     let e = s.entries;
-    answer(m, e);
+    let mut out = BufWriter::new(rt.alloc(), rt.stdout())?;
+    answer(&mut out, m, e)?;
+    out.flush()
 }

@@ -4,6 +4,9 @@
 
 ghost use Rattle.std.specs.Prelude.{◌≤◌};
 
+use std::io;
+use std::io::{BufWriter, Read, Write};
+
 // A number of at most six digits, with one more digit after it.
 fn tens(v: usize, b: u8) -> usize
     ensures { result ≤ 999999 }
@@ -19,45 +22,48 @@ fn length_of(d: [u8; 7]) -> usize {
     )
 }
 
-fn answer(text: &[u8]) {
-    let mut out = [0u8; 192352];
-    let n = listing::whole::listing(text, &mut out);
-    io::write_all(1, &out[..n]);
+fn answer<W: Write>(out: &mut W, text: &[u8]) -> io::Result<()> {
+    let mut lines = [0u8; 192352];
+    let n = listing::whole::listing(text, &mut lines);
+    streams::write_all(out, &lines[..n])
 }
 
 // Reads n bytes, if there is room for them.
-fn fill(buf: &mut [u8], n: usize) {
+fn fill<R: Read>(input: &mut R, buf: &mut [u8], n: usize) -> io::Result<()> {
     if n <= buf.len() {
-        io::read_full(0, &mut buf[..n]);
+        streams::read_full(input, &mut buf[..n])?;
     }
+    Ok(())
 }
 
 // Answers the text of the first n bytes.
-fn answer_first(buf: &[u8], n: usize) {
+fn answer_first<W: Write>(out: &mut W, buf: &[u8], n: usize) -> io::Result<()> {
     if n <= buf.len() {
-        answer(&buf[..n]);
+        answer(out, &buf[..n])?;
     }
+    Ok(())
 }
 
 // Reads and answers a text; false at the end of the input.
-fn next() -> bool {
+fn next<R: Read, W: Write>(input: &mut R, out: &mut W) -> io::Result<bool> {
     let mut head = [0u8; 7];
-    if io::read_full(0, &mut head) < 7 {
-        return false;
+    if streams::read_full(input, &mut head)? < 7 {
+        return Ok(false);
     }
     let n = length_of(head);
     let mut buf = [0u8; 65537];
-    fill(&mut buf, n);
-    answer_first(&buf, n);
-    true
+    fill(input, &mut buf, n)?;
+    answer_first(out, &buf, n)?;
+    Ok(true)
 }
 
-fn main() {
-    let mut turns = 1000000u64;
-    while turns > 0 {
-        if !next() {
-            return;
+fn main(rt: HostRuntime) -> io::Result<()> {
+    let mut input = rt.stdin();
+    let mut out = BufWriter::new(rt.alloc(), rt.stdout())?;
+    for _ in 0..1000000 {
+        if !next(&mut input, &mut out)? {
+            break;
         }
-        turns -= 1;
     }
+    out.flush()
 }

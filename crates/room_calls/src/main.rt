@@ -12,6 +12,8 @@ use mechanism::features::{Feature, letter, part, seg};
 use mechanism::rows::{Place, Row, Value, row_from};
 use record_rows::rows;
 use shown_rows::{RowsAnswer, rows_in_numbers};
+use std::io;
+use std::io::{BufWriter, Read, Write};
 
 // A number of at most six digits, with one more digit after it.
 fn tens(v: usize, b: u8) -> usize
@@ -28,12 +30,12 @@ fn length_of(d: [u8; 7]) -> usize {
     )
 }
 
-fn print_problem(p: Problem) {
-    io::write_all(1, b"X,");
-    io::print_decimal(1, p.number() as u64);
-    io::write_all(1, b",");
-    io::print_decimal(1, p.place() as u64);
-    io::write_all(1, b"\n");
+fn print_problem<W: Write>(out: &mut W, p: Problem) -> io::Result<()> {
+    streams::write_all(out, b"X,")?;
+    streams::print_decimal(out, p.number() as u64)?;
+    streams::write_all(out, b",")?;
+    streams::print_decimal(out, p.place() as u64)?;
+    streams::write_all(out, b"\n")
 }
 
 // ---- what stood in the lent arrays before the call
@@ -324,88 +326,91 @@ fn fewest(m: Mechanism, q: Pose, margin: f64, what: usize) -> Found {
     Found { number: high, kept }
 }
 
-fn print_fewest(f: Found) -> bool {
-    io::print_decimal(1, f.number as u64);
-    io::write_all(1, b",");
-    f.kept
+fn print_fewest<W: Write>(out: &mut W, f: Found) -> io::Result<bool> {
+    streams::print_decimal(out, f.number as u64)?;
+    streams::write_all(out, b",")?;
+    Ok(f.kept)
 }
 
-fn print_room(m: Mechanism, q: Pose, margin: f64) {
-    io::write_all(1, b"accepted,");
-    let a = print_fewest(fewest(m, q, margin, 0));
-    let b = print_fewest(fewest(m, q, margin, 1));
-    let c = print_fewest(fewest(m, q, margin, 2));
-    let d = print_fewest(fewest(m, q, margin, 3));
+fn print_room<W: Write>(out: &mut W, m: Mechanism, q: Pose, margin: f64) -> io::Result<()> {
+    streams::write_all(out, b"accepted,")?;
+    let a = print_fewest(out, fewest(m, q, margin, 0))?;
+    let b = print_fewest(out, fewest(m, q, margin, 1))?;
+    let c = print_fewest(out, fewest(m, q, margin, 2))?;
+    let d = print_fewest(out, fewest(m, q, margin, 3))?;
     if (a & b) & (c & d) {
-        io::write_all(1, b"kept\n");
+        streams::write_all(out, b"kept\n")
     } else {
-        io::write_all(1, b"written\n");
+        streams::write_all(out, b"written\n")
     }
 }
 
-fn print_posed(m: Mechanism, p: Posed, margin: f64) {
+fn print_posed<W: Write>(out: &mut W, m: Mechanism, p: Posed, margin: f64) -> io::Result<()> {
     let c = p.checked;
     let q = p.pose;
     match c {
-        Checked::Accepted => print_asked(m, q, margin),
-        Checked::Refused(x) => print_problem(x),
+        Checked::Accepted => print_asked(out, m, q, margin),
+        Checked::Refused(x) => print_problem(out, x),
     }
 }
 
 // Refused where 256 rows are too few.
-fn print_asked(m: Mechanism, q: Pose, margin: f64) {
+fn print_asked<W: Write>(out: &mut W, m: Mechanism, q: Pose, margin: f64) -> io::Result<()> {
     let t = tried(m, q, margin, room_for(4, 0));
     if t.accepted {
-        print_room(m, q, margin);
+        print_room(out, m, q, margin)
     } else {
-        print_problem(Problem::TooFewRows);
+        print_problem(out, Problem::TooFewRows)
     }
 }
 
-fn answer(text: &[u8]) {
+fn answer<W: Write>(out: &mut W, text: &[u8]) -> io::Result<()> {
     let s = sheet::read(text);
     let m = s.mechanism;
     let e = s.entries;
     let c = s.checked;
     match c {
-        Checked::Accepted => print_posed(m, sheet::posed::posed(m, e), s.margin),
-        Checked::Refused(p) => print_problem(p),
+        Checked::Accepted => print_posed(out, m, sheet::posed::posed(m, e), s.margin),
+        Checked::Refused(p) => print_problem(out, p),
     }
 }
 
 // Reads n bytes, if there is room for them.
-fn fill(buf: &mut [u8], n: usize) {
+fn fill<R: Read>(input: &mut R, buf: &mut [u8], n: usize) -> io::Result<()> {
     if n <= buf.len() {
-        io::read_full(0, &mut buf[..n]);
+        streams::read_full(input, &mut buf[..n])?;
     }
+    Ok(())
 }
 
 // Answers the text of the first n bytes.
-fn answer_first(buf: &[u8], n: usize) {
+fn answer_first<W: Write>(out: &mut W, buf: &[u8], n: usize) -> io::Result<()> {
     if n <= buf.len() {
-        answer(&buf[..n]);
+        answer(out, &buf[..n])?;
     }
+    Ok(())
 }
 
 // Reads and answers a text; false at the end of the input.
-fn next() -> bool {
+fn next<R: Read, W: Write>(input: &mut R, out: &mut W) -> io::Result<bool> {
     let mut head = [0u8; 7];
-    if io::read_full(0, &mut head) < 7 {
-        return false;
+    if streams::read_full(input, &mut head)? < 7 {
+        return Ok(false);
     }
     let n = length_of(head);
     let mut buf = [0u8; 65537];
-    fill(&mut buf, n);
-    answer_first(&buf, n);
-    true
+    fill(input, &mut buf, n)?;
+    answer_first(out, &buf, n)?;
+    Ok(true)
 }
 
-fn main() {
-    let mut turns = 1000000u64;
-    while turns > 0 {
-        if !next() {
-            return;
+fn main(rt: HostRuntime) -> io::Result<()> {
+    let mut input = rt.stdin();
+    let mut out = BufWriter::new(rt.alloc(), rt.stdout())?;
+    for _ in 0..1000000 {
+        if !next(&mut input, &mut out)? {
+            break;
         }
-        turns -= 1;
     }
+    out.flush()
 }

@@ -6,6 +6,8 @@
 ghost use Rattle.std.specs.Prelude.{◌≤◌};
 
 use bodies::{Checked, Problem};
+use std::io;
+use std::io::{BufWriter, Read, Write};
 
 // A number of at most six digits, with one more digit after it.
 fn tens(v: usize, b: u8) -> usize
@@ -22,58 +24,59 @@ fn length_of(d: [u8; 7]) -> usize {
     )
 }
 
-fn print_problem(p: Problem) {
-    io::write_all(1, b"X,");
-    io::print_decimal(1, p.number() as u64);
-    io::write_all(1, b",");
-    io::print_decimal(1, p.place() as u64);
-    io::write_all(1, b"\n");
+fn print_problem<W: Write>(out: &mut W, p: Problem) -> io::Result<()> {
+    streams::write_all(out, b"X,")?;
+    streams::print_decimal(out, p.number() as u64)?;
+    streams::write_all(out, b",")?;
+    streams::print_decimal(out, p.place() as u64)?;
+    streams::write_all(out, b"\n")
 }
 
-fn answer(text: &[u8]) {
+fn answer<W: Write>(out: &mut W, text: &[u8]) -> io::Result<()> {
     let s = sheet::read(text);
     let c = s.checked;
     match c {
-        Checked::Accepted => {
-            io::write_all(1, b"accepted\n");
-        }
-        Checked::Refused(p) => print_problem(p),
+        Checked::Accepted => { streams::write_all(out, b"accepted\n") }
+        Checked::Refused(p) => print_problem(out, p),
     }
 }
 
 // Reads n bytes, if there is room for them.
-fn fill(buf: &mut [u8], n: usize) {
+fn fill<R: Read>(input: &mut R, buf: &mut [u8], n: usize) -> io::Result<()> {
     if n <= buf.len() {
-        io::read_full(0, &mut buf[..n]);
+        streams::read_full(input, &mut buf[..n])?;
     }
+    Ok(())
 }
 
 // Answers the text of the first n bytes.
-fn answer_first(buf: &[u8], n: usize) {
+fn answer_first<W: Write>(out: &mut W, buf: &[u8], n: usize) -> io::Result<()> {
     if n <= buf.len() {
-        answer(&buf[..n]);
+        answer(out, &buf[..n])?;
     }
+    Ok(())
 }
 
 // Reads and answers a text; false at the end of the input.
-fn next() -> bool {
+fn next<R: Read, W: Write>(input: &mut R, out: &mut W) -> io::Result<bool> {
     let mut head = [0u8; 7];
-    if io::read_full(0, &mut head) < 7 {
-        return false;
+    if streams::read_full(input, &mut head)? < 7 {
+        return Ok(false);
     }
     let n = length_of(head);
     let mut buf = [0u8; 65537];
-    fill(&mut buf, n);
-    answer_first(&buf, n);
-    true
+    fill(input, &mut buf, n)?;
+    answer_first(out, &buf, n)?;
+    Ok(true)
 }
 
-fn main() {
-    let mut turns = 1000000u64;
-    while turns > 0 {
-        if !next() {
-            return;
+fn main(rt: HostRuntime) -> io::Result<()> {
+    let mut input = rt.stdin();
+    let mut out = BufWriter::new(rt.alloc(), rt.stdout())?;
+    for _ in 0..1000000 {
+        if !next(&mut input, &mut out)? {
+            break;
         }
-        turns -= 1;
     }
+    out.flush()
 }

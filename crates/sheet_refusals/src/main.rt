@@ -2,24 +2,25 @@
 #![tactic(auto)]
 
 use bodies::{Checked, Problem};
+use std::io;
+use std::io::Write;
 
-fn print_problem(p: Problem) {
-    io::write_all(1, b"X,");
-    io::print_decimal(1, p.number() as u64);
-    io::write_all(1, b",");
-    io::print_decimal(1, p.place() as u64);
-    io::write_all(1, b"\n");
+fn print_problem<W: Write>(out: &mut W, p: Problem) -> io::Result<()> {
+    streams::write_all(out, b"X,")?;
+    streams::print_decimal(out, p.number() as u64)?;
+    streams::write_all(out, b",")?;
+    streams::print_decimal(out, p.place() as u64)?;
+    streams::write_all(out, b"\n")
 }
 
-fn main() {
+fn main(rt: HostRuntime) -> io::Result<()> {
     let mut buf = [0u8; 65537];
-    let n = io::read_full(0, &mut buf);
+    let n = streams::read_full(&mut rt.stdin(), &mut buf)?;
     let s = sheet::read(&buf[..n]);
     let c = s.checked;
+    let mut out = rt.stdout();
     match c {
-        Checked::Accepted => {
-            io::write_all(1, b"accepted\n");
-        }
-        Checked::Refused(p) => print_problem(p),
+        Checked::Accepted => streams::write_all(&mut out, b"accepted\n"),
+        Checked::Refused(p) => print_problem(&mut out, p),
     }
 }

@@ -1,5 +1,4 @@
 use native.Mathlib.Omega.{arith}
-use Prim.Native.Nat.{◌-◌}
 use Rattle.geometry_calls.proofs.float_at.Goals as goal
 
 pub loop-k-init : goal.loop-k-init

@@ -1,5 +1,4 @@
 use native.Mathlib.Omega.{arith}
-use Prim.Native.Nat.{◌-◌}
 use Rattle.pose_calls.proofs.number_at.Goals as goal
 
 pub loop-k-init : goal.loop-k-init
