@@ -5,7 +5,7 @@ pub read_pairs-requires : goal.read_pairs-requires
 read_pairs-requires c =
     let s = c.args in
     let e = c.rows_in_numbers-a.ensures in
-    ready s.m s.q s.margin s.places.now s.values.now s.grad.now s.slip.now e.0 c.in-Accepted.is e.1.0 e.1.1.0
+    ready s.m s.q s.margin s.places.now s.values.now s.grad.now s.slip.now e.value c.in-Accepted.is e.places_after e.values_after
 
 pub returns-in-Refused : goal.returns-in-Refused
 returns-in-Refused c =

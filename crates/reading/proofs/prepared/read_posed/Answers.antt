@@ -5,7 +5,7 @@ pub read_pairs-requires : goal.read_pairs-requires
 read_pairs-requires c =
     let a = c.args in
     let e = c.rows_in-a.ensures in
-    over-ready a.faces.now a.fnames.now a.discs.now a.dnames.now a.sides.now a.centers.now a.choices.now a.drawn.now a.sampled.now a.parts.now a.bodies a.pairs a.q a.margin a.places.now a.values.now a.grad.now a.slip.now e.0 c.in-Accepted.is e.1.0 e.1.1.0
+    over-ready a.faces.now a.fnames.now a.discs.now a.dnames.now a.sides.now a.centers.now a.choices.now a.drawn.now a.sampled.now a.parts.now a.bodies a.pairs a.q a.margin a.places.now a.values.now a.grad.now a.slip.now e.value c.in-Accepted.is e.places_after e.values_after
 
 pub returns-in-Refused : goal.returns-in-Refused
 returns-in-Refused c =
