@@ -1,5 +1,4 @@
 use native.Mathlib.Omega.{arith}
-use Prim.Native.Nat.{◌-◌}
 use mathlib.Core.Path.{sym, ◌∙◌}
 use Rattle.candidates.proofs.Sides.{faces_long}
 use Rattle.bearings.proofs.Best.{walked_start, walked_takes, walked_stays, walked_skips, walked_some, walked_none}

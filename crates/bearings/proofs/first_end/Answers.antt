@@ -1,5 +1,4 @@
 use native.Mathlib.Omega.{arith}
-use Prim.Native.Nat.{◌-◌}
 use mathlib.Core.Path.{sym, ap, ◌∙◌}
 use Rattle.candidates.proofs.Sides.{discs_long, no_disc}
 use Rattle.bearings.specs.Bearing.{ends_of, first_of}

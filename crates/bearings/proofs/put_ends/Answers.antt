@@ -1,5 +1,4 @@
 use native.Mathlib.Omega.{arith}
-use Prim.Native.Nat.{◌-◌}
 use mathlib.Core.Path.{sym, ◌∙◌}
 use Rattle.candidates.proofs.Sides.{discs_long, no_disc}
 use Rattle.bearings.proofs.Ends.{put-start, put_two, put-no, put-long, put-room, put-done}

@@ -1,5 +1,4 @@
 use native.Mathlib.Omega.{arith}
-use Prim.Native.Nat.{◌-◌}
 use lib.ListN.{get_or}
 use Rattle.material.specs.Material.{material_of}
 use Rattle.proximities.proofs.Wrote.{ab_short, wrote_read, wrote_near, wrote_named, wrote_ab, wrote_start, wrote_more, wrote_end, wrote_one}

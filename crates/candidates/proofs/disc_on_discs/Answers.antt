@@ -1,5 +1,4 @@
 use native.Mathlib.Omega.{arith}
-use Prim.Native.Nat.{◌-◌}
 use lib.ListN.{get_or}
 use Rattle.proximities.proofs.Wrote.{discs_short, wrote_read, wrote_near, wrote_named, wrote_discs, wrote_start, wrote_more, wrote_end, wrote_one}
 use Rattle.candidates.proofs.Sides.{discs_long, no_disc}

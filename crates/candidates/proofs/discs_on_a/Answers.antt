@@ -1,5 +1,4 @@
 use native.Mathlib.Omega.{arith}
-use Prim.Native.Nat.{◌-◌}
 use Rattle.material.specs.Material.{material_of}
 use Rattle.proximities.specs.Proximities.{read_ba}
 use Rattle.proximities.proofs.Wrote.{ba_short, first-few, wrote_near, wrote_named, wrote_start, wrote_more, wrote_end, wrote_room}

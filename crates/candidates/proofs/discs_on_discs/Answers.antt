@@ -1,5 +1,4 @@
 use native.Mathlib.Omega.{arith}
-use Prim.Native.Nat.{◌-◌}
 use Rattle.proximities.specs.Proximities.{read_discs}
 use Rattle.proximities.proofs.Wrote.{discs_short, first-few, wrote_near, wrote_named, wrote_start, wrote_more, wrote_end, wrote_room}
 use Rattle.candidates.proofs.Sides.{discs_long, no_disc}

@@ -1,5 +1,4 @@
 use native.Mathlib.Omega.{arith}
-use Prim.Native.Nat.{◌-◌}
 use Rattle.drawing.specs.Drawing.{drawn_points}
 use Rattle.drawing.proofs.Segments.{places_start, places_more, places_end, drawn-short, rows-count}
 use Rattle.drawing.proofs.draw_polygon.Goals as goal

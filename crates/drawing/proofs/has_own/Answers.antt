@@ -1,5 +1,4 @@
 use native.Mathlib.Omega.{arith}
-use Prim.Native.Nat.{◌-◌}
 use mathlib.Core.Path.{sym, ◌∙◌}
 use Rattle.laws.proofs.Lists.{any-yes, any-no, any-done}
 use Rattle.mechanism.specs.Description.{part_at, range_at}

@@ -1,5 +1,4 @@
 use native.Mathlib.Omega.{arith}
-use Prim.Native.Nat.{◌-◌}
 use mathlib.Core.Path.{refl}
 use Rattle.laws.proofs.Fill.{fill_from, fill_put}
 use Rattle.drawing.proofs.Sides.{what_at, what_turn, what_done}

@@ -1,5 +1,4 @@
 use native.Mathlib.Omega.{arith}
-use Prim.Native.Nat.{◌-◌}
 use mathlib.Core.Path.{refl, ap, ap₂}
 use mathlib.Core.Bool.{◌&&◌}
 use Rattle.laws.proofs.Fill.{fill_from, fill_put}

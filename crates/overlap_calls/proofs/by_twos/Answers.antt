@@ -1,6 +1,5 @@
 use native.Mathlib.Omega.{arith}
 use native.Mathlib.Nat.{mod-lt}
-use Prim.Native.Nat.{◌-◌}
 use Rattle.overlap_calls.proofs.by_twos.Goals as goal
 
 pub loop-i-init : goal.loop-i-init

@@ -1,5 +1,4 @@
 use native.Mathlib.Omega.{arith}
-use Prim.Native.Nat.{◌-◌}
 use Rattle.overlap_times.proofs.sum_of.Goals as goal
 
 pub loop-k-init : goal.loop-k-init

@@ -1,5 +1,4 @@
 use native.Mathlib.Omega.{arith}
-use Prim.Native.Nat.{◌-◌}
 use Rattle.prepared_calls.proofs.with_value.Goals as goal
 
 pub loop-k-init : goal.loop-k-init

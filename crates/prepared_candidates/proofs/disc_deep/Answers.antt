@@ -1,5 +1,4 @@
 use native.Mathlib.Omega.{arith}
-use Prim.Native.Nat.{◌-◌}
 use mathlib.Core.Path.{sym, ap, ◌∙◌}
 use Rattle.laws.specs.Lists.{any}
 use Rattle.laws.proofs.Lists.{any-yes, any-no, any-done}

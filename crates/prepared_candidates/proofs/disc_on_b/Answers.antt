@@ -1,5 +1,4 @@
 use native.Mathlib.Omega.{arith}
-use Prim.Native.Nat.{◌-◌}
 use Rattle.material.specs.Material.{material_of}
 use Rattle.strips.specs.Strips.{face_at}
 use Rattle.proximities.proofs.Wrote.{ab_short, wrote_ab, wrote_read, wrote_near, wrote_named}

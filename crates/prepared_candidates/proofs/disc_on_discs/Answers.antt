@@ -1,5 +1,4 @@
 use native.Mathlib.Omega.{arith}
-use Prim.Native.Nat.{◌-◌}
 use Rattle.strips.specs.Strips.{disc_at}
 use Rattle.proximities.proofs.Wrote.{discs_short, wrote_discs, wrote_read, wrote_near, wrote_named}
 use Rattle.prepared_candidates.proofs.Listed.{listed_start, listed_more, listed-end, listed-one}

@@ -1,5 +1,5 @@
 use native.Mathlib.Omega.{arith}
-use Prim.Native.Nat.{◌+◌, ◌-◌}
+use Prim.Native.Nat.{◌+◌}
 use Rattle.material.specs.Material.{material_of}
 use Rattle.strips.specs.Strips.{face_at, piece_at}
 use Rattle.proximities.specs.Proximities.{read_ba}

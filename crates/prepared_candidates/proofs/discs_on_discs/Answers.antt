@@ -1,5 +1,5 @@
 use native.Mathlib.Omega.{arith}
-use Prim.Native.Nat.{◌+◌, ◌-◌}
+use Prim.Native.Nat.{◌+◌}
 use Rattle.strips.specs.Strips.{disc_at, piece_at}
 use Rattle.proximities.specs.Proximities.{read_discs}
 use Rattle.proximities.proofs.Wrote.{discs_short, wrote_near, wrote_named}

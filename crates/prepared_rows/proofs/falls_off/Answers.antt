@@ -1,5 +1,4 @@
 use native.Mathlib.Omega.{arith}
-use Prim.Native.Nat.{◌-◌}
 use mathlib.Core.Path.{ap, ap₂, sym, ◌∙◌}
 use native.Mathlib.Nat.{sub-zero}
 use mathlib.Core.Bool.{◌||◌}

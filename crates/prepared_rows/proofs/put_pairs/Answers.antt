@@ -1,5 +1,5 @@
 use native.Mathlib.Omega.{arith}
-use Prim.Native.Nat.{◌+◌, ◌-◌}
+use Prim.Native.Nat.{◌+◌}
 use Rattle.laws.proofs.Sums.{sum_more, sum_mono}
 use Rattle.prepared_candidates.specs.Prepared.{bound_in}
 use Rattle.prepared_rows.specs.Prepared.{bounds_in}

@@ -12,7 +12,6 @@ returns-in-Refused c =
     let s = c.args in
     let e = c.rows_in_numbers-a.ensures in
     let r = read_refused s.m s.q s.margin s.places.now s.values.now s.grad.now s.slip.now in
-   
     record { value = r _ e.value c.in-Refused.is c.refused.ensures; places_after = e.places_after; values_after = e.values_after; grad_after = e.grad_after; slip_after = e.slip_after }
 
 pub returns-in-Accepted : goal.returns-in-Accepted

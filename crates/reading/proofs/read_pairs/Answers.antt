@@ -1,4 +1,3 @@
-use Prim.Native.Nat.{◌-◌}
 use native.Mathlib.Omega.{arith}
 use Rattle.mechanism.proofs.Checks.{accepted-few}
 use Rattle.mechanism.proofs.Drawn.{accepted-pair-drawn}

@@ -1,5 +1,4 @@
 use native.Mathlib.Omega.{arith}
-use Prim.Native.Nat.{◌-◌}
 use Rattle.record_calls.proofs.whole.Goals as goal
 
 pub loop-i-init : goal.loop-i-init

@@ -42,8 +42,7 @@ module _ (m : Mechanism) (q : Pose) (margin : Float) (out : List Row) (grad slip
 
 pub loop-i-init : goal.loop-i-init
 loop-i-init c =
-    let s = c.args in
-    (
+    let s = c.args in (
       omega arith,
       ats-none s.m s.q s.margin s.out.now s.grad.now s.slip.now,
       outs-none s.m s.q s.margin s.out.now s.grad.now s.slip.now,
@@ -67,8 +66,7 @@ pub loop-i-preserved : goal.loop-i-preserved
 loop-i-preserved c =
     let s = c.args in
     let l = c.loop-i in
-    let r = c.pair_records-p.ensures in
-    (
+    let r = c.pair_records-p.ensures in (
       omega arith,
       next_at s.m s.q s.margin s.out.now s.grad.now s.slip.now s.n c.requires l.i c.loop-i-test.true l.invariant.1 l.invariant.2 l.invariant.3 l.invariant.4 r c.put_records-at.ensures.0,
       next_out s.m s.q s.margin s.out.now s.grad.now s.slip.now s.n c.requires l.i c.loop-i-test.true l.invariant.1 l.invariant.2 l.invariant.3 l.invariant.4 r c.put_records-at.ensures.1,

@@ -1,6 +1,5 @@
 use mathlib.Core.Bool.{not}
 use native.Mathlib.Omega.{arith}
-use Prim.Native.Nat.{◌-◌}
 use mathlib.Core.Path.{sym, ap, subst, ◌∙◌}
 use borrow.Author.Tests.{not-true, not-false}
 use Rattle.sheet.specs.Limits.{Narrow, counted, within_limits}

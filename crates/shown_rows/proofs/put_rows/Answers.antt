@@ -1,5 +1,4 @@
 use native.Mathlib.Omega.{arith}
-use Prim.Native.Nat.{◌-◌}
 use mathlib.Core.Path.{refl, sym}
 use Rattle.mechanism.proofs.Checks.{accepted-few}
 use Rattle.sides.specs.Contacts.{mechanism_bound}

@@ -47,21 +47,21 @@ returns-in-Accepted c =
     record {
       value = sym e;
       drawn_after = (
-          rows_written s.drawn.now (drawn_table m.parts m.outlines) e a.0,
-          rows_written s.sampled.now (sampled_table m.parts m.outlines) e a.1,
-          rows_written s.parts.now (part_table m.parts m.outlines) e a.2,
-        );
+        rows_written s.drawn.now (drawn_table m.parts m.outlines) e a.0,
+        rows_written s.sampled.now (sampled_table m.parts m.outlines) e a.1,
+        rows_written s.parts.now (part_table m.parts m.outlines) e a.2,
+      );
       faces_after = (
-            rows_written s.faces.now (face_table m) e b.0,
-            rows_written s.fnames.now (face_name_table m) e b.1,
-            rows_written s.discs.now (disc_table m) e b.2,
-            rows_written s.dnames.now (disc_name_table m) e b.3,
-          );
+        rows_written s.faces.now (face_table m) e b.0,
+        rows_written s.fnames.now (face_name_table m) e b.1,
+        rows_written s.discs.now (disc_table m) e b.2,
+        rows_written s.dnames.now (disc_name_table m) e b.3,
+      );
       sides_after = (
-            rows_written s.sides.now (side_table m) e b.4,
-            rows_written s.centers.now (center_table m) e b.5,
-            rows_written s.choices.now (choice_table m) e b.6,
-          );
+        rows_written s.sides.now (side_table m) e b.4,
+        rows_written s.centers.now (center_table m) e b.5,
+        rows_written s.choices.now (choice_table m) e b.6,
+      );
     }
 
 pub returns-in-Refused : goal.returns-in-Refused
@@ -72,19 +72,19 @@ returns-in-Refused c =
     record {
       value = sym e;
       drawn_after = (
-          rows-kept s.drawn.now (drawn_table m.parts m.outlines) e,
-          rows-kept s.sampled.now (sampled_table m.parts m.outlines) e,
-          rows-kept s.parts.now (part_table m.parts m.outlines) e,
-        );
+        rows-kept s.drawn.now (drawn_table m.parts m.outlines) e,
+        rows-kept s.sampled.now (sampled_table m.parts m.outlines) e,
+        rows-kept s.parts.now (part_table m.parts m.outlines) e,
+      );
       faces_after = (
-            rows-kept s.faces.now (face_table m) e,
-            rows-kept s.fnames.now (face_name_table m) e,
-            rows-kept s.discs.now (disc_table m) e,
-            rows-kept s.dnames.now (disc_name_table m) e,
-          );
+        rows-kept s.faces.now (face_table m) e,
+        rows-kept s.fnames.now (face_name_table m) e,
+        rows-kept s.discs.now (disc_table m) e,
+        rows-kept s.dnames.now (disc_name_table m) e,
+      );
       sides_after = (
-            rows-kept s.sides.now (side_table m) e,
-            rows-kept s.centers.now (center_table m) e,
-            rows-kept s.choices.now (choice_table m) e,
-          );
+        rows-kept s.sides.now (side_table m) e,
+        rows-kept s.centers.now (center_table m) e,
+        rows-kept s.choices.now (choice_table m) e,
+      );
     }

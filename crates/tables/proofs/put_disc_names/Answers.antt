@@ -1,5 +1,4 @@
 use native.Mathlib.Omega.{arith}
-use Prim.Native.Nat.{◌-◌}
 use Rattle.strips.specs.Strips.{piece_row}
 use Rattle.tables.proofs.Known.{discs_long}
 use Rattle.tables.proofs.Written.{rows_start, rows_next, rows_end}

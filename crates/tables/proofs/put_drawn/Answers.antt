@@ -1,5 +1,4 @@
 use native.Mathlib.Omega.{arith}
-use Prim.Native.Nat.{◌-◌}
 use Rattle.drawing.proofs.Segments.{places_start, drawn-short, rows-count}
 use Rattle.tables.proofs.Puts.{seg-more, seg-end}
 use Rattle.tables.proofs.put_drawn.Goals as goal

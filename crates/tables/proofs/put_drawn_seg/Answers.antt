@@ -1,5 +1,4 @@
 use native.Mathlib.Omega.{arith}
-use Prim.Native.Nat.{◌-◌}
 use mathlib.Core.Path.{refl}
 use Rattle.drawing.specs.Drawing.{drawn_points}
 use Rattle.drawing.proofs.Segments.{drawn-held, rows-turn, first-row, next_row, drawn-end}

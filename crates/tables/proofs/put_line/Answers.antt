@@ -1,5 +1,4 @@
 use native.Mathlib.Omega.{arith}
-use Prim.Native.Nat.{◌-◌}
 use mathlib.Core.Path.{refl}
 use Rattle.laws.specs.Lists.{list_in}
 use Rattle.laws.proofs.Writing.{starts, puts, ends}

@@ -1,5 +1,4 @@
 use native.Mathlib.Omega.{arith}
-use Prim.Native.Nat.{◌-◌}
 use Rattle.drawing.proofs.Segments.{places_start, rows-count}
 use Rattle.drawing.proofs.Mouths.{samples_short}
 use Rattle.tables.proofs.Puts.{seg-more, seg-end}

@@ -1,5 +1,5 @@
 use native.Mathlib.Omega.{arith}
-use Prim.Native.Nat.{◌-◌, ◌≤◌}
+use Prim.Native.Nat.{◌≤◌}
 use mathlib.Core.Path.{refl}
 use Rattle.laws.proofs.Fill.{fill_from, fill_put}
 use Rattle.laws.proofs.Lists.{list_done}

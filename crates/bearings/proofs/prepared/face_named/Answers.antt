@@ -1,5 +1,4 @@
 use native.Mathlib.Omega.{arith}
-use Prim.Native.Nat.{◌-◌}
 use mathlib.Core.Path.{sym, ap, ◌∙◌}
 use Rattle.candidates.proofs.Sides.{no_face}
 use Rattle.bearings.specs.Bearing.{face_named}

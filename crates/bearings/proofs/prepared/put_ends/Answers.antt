@@ -1,5 +1,4 @@
 use native.Mathlib.Omega.{arith}
-use Prim.Native.Nat.{◌-◌}
 use mathlib.Core.Path.{ap, ◌∙◌}
 use Rattle.candidates.proofs.Sides.{no_disc}
 use Rattle.bearings.specs.Bearing.{start_of_disc, end_of_disc}

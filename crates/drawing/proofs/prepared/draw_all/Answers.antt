@@ -1,5 +1,5 @@
 use native.Mathlib.Omega.{arith}
-use Prim.Native.Nat.{◌-◌, ◌≤◌}
+use Prim.Native.Nat.{◌≤◌}
 use mathlib.Core.Path.{ap₂}
 use borrow.Author.Tests.{eq-eqb, ne_eqb}
 use Rattle.drawing.specs.Prepared.{parts_in}

@@ -1,5 +1,4 @@
 use native.Mathlib.Omega.{arith}
-use Prim.Native.Nat.{◌-◌}
 use mathlib.Core.Path.{refl}
 use Rattle.laws.proofs.Writing.{ends}
 use Rattle.drawing.proofs.Segments.{ends-turn, ends-done, first-row, next_row, rows-count}

@@ -1,5 +1,4 @@
 use native.Mathlib.Omega.{arith}
-use Prim.Native.Nat.{◌-◌}
 use mathlib.Core.Path.{refl, ap, ◌∙◌}
 use Rattle.laws.proofs.Writing.{starts, puts, ends}
 use Rattle.bodies.specs.Pose.{world_of}

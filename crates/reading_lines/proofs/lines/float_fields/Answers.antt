@@ -1,5 +1,4 @@
 use native.Mathlib.Omega.{arith}
-use Prim.Native.Nat.{◌-◌}
 use Rattle.reading_lines.proofs.LineLaws.{fields-start, fields-room, fields-more, fields-end}
 use Rattle.reading_lines.proofs.lines.float_fields.Goals as goal
 

@@ -1,5 +1,4 @@
 use native.Mathlib.Omega.{arith}
-use Prim.Native.Nat.{◌-◌}
 use Rattle.reading_lines.specs.Readings.{all_lines_in}
 use Rattle.reading_lines.proofs.LineLaws.{wrote_then, wrote_as, room-first, room-rest, room_as}
 use Rattle.reading_lines.proofs.WholeLaws.{parts-start, parts-room, parts_more, parts-end, reading-long, other_same}

@@ -1,5 +1,4 @@
 use native.Mathlib.Omega.{arith}
-use Prim.Native.Nat.{◌-◌}
 use borrow.Author.Tests.{eq-eqb, ne_eqb}
 use Rattle.laws.proofs.Choice.{cond_yes, cond_no}
 use Rattle.reading_lines.specs.Readings.{pair_rows_in}

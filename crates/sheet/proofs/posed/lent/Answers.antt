@@ -1,6 +1,5 @@
 use native.Mathlib.Omega.{arith}
 use mathlib.Core.Path.{refl}
-use Prim.Native.Nat.{◌-◌}
 use Rattle.sheet.proofs.Lents.{lents_start, lents_more, lents_end, entries-long}
 use Rattle.sheet.proofs.posed.lent.Goals as goal
 
