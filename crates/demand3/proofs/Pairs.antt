@@ -83,6 +83,6 @@ module _ (m : Mechanism) (q : Pose) (i : ℕ) where
         (claim cs).one_deep g k l a.0 b.0 a.1 b.1 s dk dl;
     largest_deep = λ g k l hk dk bl s nl lk. (claim cs).largest_deep g k l (shows-is cs g k hk).1 dk bl s nl lk;
     none_lost = λ g k nb b n w.
-        ⊎_elim (λ h. inl (is_shown cs g k b h)) (λ x. inr (in_place g k x)) ((claim cs).shown_or_outdone g k nb b (is_within g (gap_at cs k) n w));
+        ⊎_elim (λ h. inl (is_shown cs g k b h)) (λ x. inr (in_place g k x)) ((claim cs).shown-or_outdone g k nb b (is_within g (gap_at cs k) n w));
     undecided = λ g k b u n w. is_shown cs g k b ((claim cs).undecided_shown g k u (is_within g (gap_at cs k) n w));
   }
