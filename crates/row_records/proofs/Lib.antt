@@ -1,4 +1,3 @@
 pub mod Laws
 pub mod Answered
 pub mod Put
-pub mod OfBest
