@@ -4,7 +4,7 @@ use native.Mathlib.Numerals.{add-one}
 use native.Mathlib.Omega.{arith}
 use mathlib.Core.Path.{◌≡◌, refl, sym, ap, ap₂, subst, subst₂, ◌∙◌}
 use mathlib.Core.List.{List, [], ◌++◌}
-use lib.ListN.{length, get_or, drop, length-append, drop_of_length_le}
+use lib.ListN.{length, get_or, drop, length-append, drop_of_length-le}
 use lib.Seq.{sets, length-sets, drop-cons}
 use lib.Ieee.{Float}
 use Rattle.laws.specs.Loops.{Writing}
@@ -59,7 +59,7 @@ fields-more d {l} {at} {xs} {i} f h w = record {
 
 none : (xs : List Float) (i : ℕ) → length xs ≤ i → float_fields (drop i xs) ≡ []
 unfolding float_fields
-none xs i h = ap float_fields (drop_of_length_le xs h)
+none xs i h = ap float_fields (drop_of_length-le xs h)
 
 pub fields-end : {l : List ℕ} {at : ℕ} {xs : List Float} {out : List ℕ} {k i : ℕ} → Fields l at xs out k i → length xs ≤ i → Wrote l at (float_fields xs) k out
 fields-end {xs} {i} f h = record { behind = ends-count (none xs i h) f.rest; there = ends (none xs i h) f.rest }

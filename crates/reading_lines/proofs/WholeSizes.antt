@@ -205,11 +205,11 @@ module _ (m : Mechanism) (q : Pose) (margin : Float) (h : m.bodies.coords ≤ 16
       (flat-short (row_lines m q i) 742 (lines-few i) (rows_of_pair m q margin i))
       (two-few (overlap_line i x.overlap x.face_overlap) (bearing_line i x.bearing) 57 93 (overlap_few i x.overlap x.face_overlap) (bears_few i x.bearing))
 
-  all_lines : length (all_lines m q margin) ≤ length (rows_of m q margin) * 742 + length (pair_numbers m) * 150
+  all_lines_lem : length (all_lines m q margin) ≤ length (rows_of m q margin) * 742 + length (pair_numbers m) * 150
   unfolding all_lines rows_of
-  all_lines = flat-few (rows_of_pair m q margin) (pair_lines m q margin) pair-few (pair_numbers m)
+  all_lines_lem = flat-few (rows_of_pair m q margin) (pair_lines m q margin) pair-few (pair_numbers m)
 
 pub all-fits : (m : Mechanism) (q : Pose) (margin : Float) → rows_checked m q 256 256 4096 4096 ≡ Accepted → length (all_lines m q margin) ≤ longest
 all-fits m q margin e =
     let s = accepted-small m q margin e in
-    omega (arith, s.rows, s.pairs, all_lines m q margin s.coords, list_length (λ i. i) m.pairs.count 0)
+    omega (arith, s.rows, s.pairs, all_lines_lem m q margin s.coords, list_length (λ i. i) m.pairs.count 0)

@@ -8,20 +8,20 @@ pub all_lines-requires : goal.all_lines-requires
 all_lines-requires c =
     let a = c.args in
     let e = c.read-r.ensures in
-    read_ready a.m a.q a.margin no_places no_values no_columns no_columns refl refl refl refl e.0 c.in-Accepted.is
-    e.1.0 e.1.1.0 e.1.1.1.0 e.1.1.1.1 _ (omega arith)
+    read_ready a.m a.q a.margin no_places no_values no_columns no_columns refl refl refl refl e.value c.in-Accepted.is
+    e.places_after e.values_after e.grad_after e.slip_after _ (omega arith)
 
 pub returns-in-Refused : goal.returns-in-Refused
 returns-in-Refused c =
     let a = c.args in
     let e = c.read-r.ensures in
-    wrote_as (read_refused a.m a.q a.margin no_places no_values no_columns no_columns refl refl refl refl e.0 _ c.in-Refused.is) c.refused.ensures
+    wrote_as (read_refused a.m a.q a.margin no_places no_values no_columns no_columns refl refl refl refl e.value _ c.in-Refused.is) c.refused.ensures
 
 pub returns-in-Accepted : goal.returns-in-Accepted
 returns-in-Accepted c =
     let a = c.args in
     let e = c.read-r.ensures in
     wrote_as
-    (read_accepted a.m a.q a.margin no_places no_values no_columns no_columns refl refl refl refl e.0 c.in-Accepted.is
-    e.1.0 e.1.1.0 e.1.1.1.0 e.1.1.1.1)
+    (read_accepted a.m a.q a.margin no_places no_values no_columns no_columns refl refl refl refl e.value c.in-Accepted.is
+    e.places_after e.values_after e.grad_after e.slip_after)
     c.all_lines.ensures

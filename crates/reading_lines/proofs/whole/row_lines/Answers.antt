@@ -80,7 +80,7 @@ columns_line-requires c =
     let a = c.args in
     let p = c.requires in
     let r = c.row_from-r.ensures in
-    let w = c.row_Line.ensures in
+    let w = c.row_line-k.ensures in
     let g = columns_part a.grad.now (a.j * a.coords) a.coords in
     let s = columns_part a.slip.now (a.j * a.coords) a.coords in
     room_as (ap₂ columns_line (sym g) (sym s)) (room-rest _ _ p.2 (wrote_as (ap row_line (sym r)) w))
@@ -89,7 +89,7 @@ pub returns : goal.returns
 returns c =
     let a = c.args in
     let r = c.row_from-r.ensures in
-    let w = c.row_Line.ensures in
+    let w = c.row_line-k.ensures in
     let g = columns_part a.grad.now (a.j * a.coords) a.coords in
     let s = columns_part a.slip.now (a.j * a.coords) a.coords in
     wrote_then _ _ (wrote_as (ap row_line (sym r)) w) (wrote_as (ap₂ columns_line (sym g) (sym s)) c.columns_line.ensures)
