@@ -11,7 +11,7 @@ home = $(to)/lib/sewqirun
 version = $$(cat VERSION)
 fill = sed -e "s|@PREFIX@|$(PREFIX)|" -e "s|@VERSION@|$(version)|"
 program = crates/readings/out/readings
-archive = crates/sewqirun/out/libsewqirun.a
+archive = crates/sewqirun_c/out/libsewqirun_c.a
 sources := $(shell find crates.txt crates/*/src crates/*/specs crates/*/proofs -type f 2>/dev/null)
 
 .PHONY: all install uninstall
@@ -23,7 +23,7 @@ $(program): $(sources)
 	touch $@
 
 $(archive): $(sources)
-	cd crates/sewqirun && rt lib
+	cd crates/sewqirun_c && rt lib
 	touch $@
 
 install: all

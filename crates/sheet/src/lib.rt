@@ -133,6 +133,7 @@ fn read_lines(text: &[u8]) -> Sheet
 }
 
 // What a sheet text writes; 1 to 3.
+#[tactic(auto, unfolding(crate::specs::Read::written_in))]
 fn written(text: &[u8]) -> Sheet
     ensures { result ≡ written_in text.now }
 {
