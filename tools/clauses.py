@@ -1,10 +1,19 @@
 """What tools/contracts and tools/functions share: reading the public functions of a source text, and the facts of their clauses."""
 import re
 
-# Outcomes that are left free on purpose, 'crate::function outcome', or all of a crate, 'crate', each with the plain reason.
-ON_PURPOSE = {
-    'streams': 'it reads any reader and writes to any writer, and what these answer no equation can name',
-}
+# Outcomes that are left free on purpose, 'crate::function outcome': no clause can say what a reader that is not known
+# gives, nor whether a write to any writer succeeds.
+ON_PURPOSE = [
+    'streams::read_full the result',
+    'streams::read_full `input`',
+    'streams::read_full `buf`',
+    'streams::write_all the result',
+    'streams::write_all `out`',
+    'streams::print_decimal the result',
+    'streams::print_decimal `out`',
+    'streams::print_hex the result',
+    'streams::print_hex `out`',
+]
 
 HEAD = re.compile(r'^[ \t]*pub[ \t]+(?:const[ \t]+)?(?:unsafe[ \t]+)?(?:extern[ \t]+"C"[ \t]+)?fn[ \t]+(\w+)', re.M)
 IMPL = re.compile(r'^impl\b[^{;]*?(?:\bfor\s+)?(\w+)(?:<[^{;]*>)?\s*(?:where\b[^{;]*)?\{', re.M)
