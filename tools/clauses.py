@@ -1,18 +1,14 @@
 """What tools/contracts and tools/functions share: reading the public functions of a source text, and the facts of their clauses."""
 import re
 
-# Outcomes that are left free on purpose, 'crate::function outcome': no clause can say what a reader that is not known
-# gives, nor whether a write to any writer succeeds.
+# Outcomes that are left free on purpose, 'crate::function outcome': no clause can say what a reader that is not known gives.
 ON_PURPOSE = [
     'streams::read_full the result',
     'streams::read_full `input`',
     'streams::read_full `buf`',
-    'streams::write_all the result',
-    'streams::write_all `out`',
-    'streams::print_decimal the result',
-    'streams::print_decimal `out`',
-    'streams::print_hex the result',
-    'streams::print_hex `out`',
+    'streams::next_text the result',
+    'streams::next_text `input`',
+    'streams::next_text `buf`',
 ]
 
 HEAD = re.compile(r'^[ \t]*pub[ \t]+(?:const[ \t]+)?(?:unsafe[ \t]+)?(?:extern[ \t]+"C"[ \t]+)?fn[ \t]+(\w+)', re.M)

@@ -20,23 +20,22 @@ use Rattle.geometry.specs.declared.Point.{Point}
 use Rattle.geometry.specs.declared.signed.Face.{Face}
 use Rattle.sides.specs.declared.PlacedFace.{PlacedFace}
 use Rattle.candidates.proofs.Sides.{no_face}
-use Rattle.bearings.specs.declared.MaybeFace.{MaybeFace}
-use Rattle.bearings.specs.declared.MaybeFace.TheVariants.{SomeFace, NoFace}
 use Rattle.bearings.specs.Bearing.{at_end, meets_row, meets, spot_of, later_of, best_step, best_face}
 use Rattle.bearings.proofs.Ends.{next_of, none_of}
+use Rattle.std.proofs.Common.{Option, Some, None}
 
 -- a number below n is a face's
 abbrev pub face_at : List PlacedFace → ℕ → Face
 face_at l i = (get_or l i no_face).face
 
-abbrev numbered_face : List PlacedFace → ℕ → ℕ → MaybeFace
-numbered_face l n i = cond (ltb i n) (SomeFace (face_at l i)) NoFace
+abbrev numbered_face : List PlacedFace → ℕ → ℕ → Option Face
+numbered_face l n i = cond (ltb i n) (Some (face_at l i)) None
 
-numbered-some : (l : List PlacedFace) (n i : ℕ) → i < n → numbered_face l n i ≡ SomeFace (face_at l i)
-numbered-some l n i h = cond_yes (SomeFace (face_at l i)) NoFace (lt-ltb i n h)
+numbered-some : (l : List PlacedFace) (n i : ℕ) → i < n → numbered_face l n i ≡ Some (face_at l i)
+numbered-some l n i h = cond_yes (Some (face_at l i)) None (lt-ltb i n h)
 
-numbered-none : (l : List PlacedFace) (n i : ℕ) → n ≤ i → numbered_face l n i ≡ NoFace
-numbered-none l n i h = cond_no (SomeFace (face_at l i)) NoFace (le-ltb i n h)
+numbered-none : (l : List PlacedFace) (n i : ℕ) → n ≤ i → numbered_face l n i ≡ None
+numbered-none l n i h = cond_no (Some (face_at l i)) None (le-ltb i n h)
 
 -- ---- The walk: i of n faces are looked at, `best` is the best one so far, or n, and `top` is its score.
 pub record Walked (p : Face → Bool) (score : Face → Float) (l : List PlacedFace) (n best : ℕ) (top : Float) (i : ℕ) : Type 0 where
@@ -51,32 +50,32 @@ walked_start p score l n top = record {
   far = omega arith;
   low = omega arith;
   seen = λ h. absurd (omega arith);
-  rest = ap (λ (r : MaybeFace). foldl (best_step p score) r (take n l)) (numbered-none l n n (omega arith));
+  rest = ap (λ (r : Option Face). foldl (best_step p score) r (take n l)) (numbered-none l n n (omega arith));
 }
 
 module _ {p : Face → Bool} {score : Face → Float} {l : List PlacedFace} {n best : ℕ} {top : Float} {i : ℕ} (w : Walked p score l n best top i) (long : n ≤ length l) where
   -- a turn that takes the best face so far to r
-  goes : {r : MaybeFace} → i < n → best_step p score (numbered_face l n best) (get_or l i no_face) ≡ r
+  goes : {r : Option Face} → i < n → best_step p score (numbered_face l n best) (get_or l i no_face) ≡ r
       → foldl (best_step p score) r (drop (i + 1) (take n l)) ≡ best_face p score (take n l)
   unfolding foldl
   goes h e =
-      ap (λ (r : MaybeFace). foldl (best_step p score) r (drop (i + 1) (take n l))) (sym e)
+      ap (λ (r : Option Face). foldl (best_step p score) r (drop (i + 1) (take n l))) (sym e)
       ∙ ap (foldl (best_step p score) (numbered_face l n best)) (sym (next_of l n i long no_face h))
       ∙ w.rest
 
   -- the code's test of a face that passes is the step's
-  later-is : later_of score (numbered_face l n best) (face_at l i) ≡ cond (eqb best n || total_order top (score (face_at l i))) (SomeFace (face_at l i)) (numbered_face l n best)
+  later-is : later_of score (numbered_face l n best) (face_at l i) ≡ cond (eqb best n || total_order top (score (face_at l i))) (Some (face_at l i)) (numbered_face l n best)
   later-is = ⊎_elim
       (λ (e : best ≡ n). none (numbered-none l n best (omega arith)) (eq-eqb best n e))
       (λ (h : best < n). some (numbered-some l n best h) (ne_eqb best n (λ e. omega arith)) (w.seen h))
       (eq-or-lt_of_le w.low)
     where
-      none : numbered_face l n best ≡ NoFace → eqb best n ≡ true
-          → later_of score (numbered_face l n best) (face_at l i) ≡ cond (eqb best n || total_order top (score (face_at l i))) (SomeFace (face_at l i)) (numbered_face l n best)
+      none : numbered_face l n best ≡ None → eqb best n ≡ true
+          → later_of score (numbered_face l n best) (face_at l i) ≡ cond (eqb best n || total_order top (score (face_at l i))) (Some (face_at l i)) (numbered_face l n best)
       none e b = rw (e, b)
 
-      some : numbered_face l n best ≡ SomeFace (face_at l best) → eqb best n ≡ false → top ≡ score (face_at l best)
-          → later_of score (numbered_face l n best) (face_at l i) ≡ cond (eqb best n || total_order top (score (face_at l i))) (SomeFace (face_at l i)) (numbered_face l n best)
+      some : numbered_face l n best ≡ Some (face_at l best) → eqb best n ≡ false → top ≡ score (face_at l best)
+          → later_of score (numbered_face l n best) (face_at l i) ≡ cond (eqb best n || total_order top (score (face_at l i))) (Some (face_at l i)) (numbered_face l n best)
       some e b s = rw (e, b, s)
 
   -- face i is taken: x is its score, t what the total order says
@@ -112,16 +111,16 @@ module _ {p : Face → Bool} {score : Face → Float} {l : List PlacedFace} {n b
   unfolding foldl
   ended h = sym (ap (foldl (best_step p score) (numbered_face l n best)) (none_of l n i long h)) ∙ w.rest
 
-  pub walked_some : {xs : List PlacedFace} → take n l ≡ xs → n ≤ i → best < n → SomeFace (face_at l best) ≡ best_face p score xs
+  pub walked_some : {xs : List PlacedFace} → take n l ≡ xs → n ≤ i → best < n → Some (face_at l best) ≡ best_face p score xs
   walked_some e h k = sym (numbered-some l n best k) ∙ ended h ∙ ap (best_face p score) e
 
-  pub walked_none : {xs : List PlacedFace} → take n l ≡ xs → n ≤ i → n ≤ best → NoFace ≡ best_face p score xs
+  pub walked_none : {xs : List PlacedFace} → take n l ≡ xs → n ≤ i → n ≤ best → None ≡ best_face p score xs
   walked_none e h k = sym (numbered-none l n best k) ∙ ended h ∙ ap (best_face p score) e
 
 -- ---- tests that agree choose the same face
 best_same : (p q : Face → Bool) (score : Face → Float) → ((f : Face) → p f ≡ q f) → (l : List PlacedFace) → best_face p score l ≡ best_face q score l
 unfolding best_face
-best_same p q score e l = foldl-same (best_step p score) (best_step q score) (λ b f. ap (λ (t : Bool). cond t (later_of score b f.face) b) (e f.face)) NoFace l
+best_same p q score e l = foldl-same (best_step p score) (best_step q score) (λ b f. ap (λ (t : Bool). cond t (later_of score b f.face) b) (e f.face)) None l
 
 -- the ends of a list in an array, two numbers each
 meets-spots : (f : Face) (ps : List Point) → any (meets_row f) (map spot_of ps) ≡ any (at_end f) ps

@@ -3,12 +3,12 @@ use Prim.Native.Nat.{ℕ, ◌+◌, ◌*◌, ◌<◌, ◌≤◌}
 use native.Mathlib.Omega.{arith}
 use native.Mathlib.Numerals.{add-one}
 use mathlib.Core.Path.{◌≡◌, refl, sym, ap, ap₂, subst, ◌∙◌}
-use mathlib.Core.Bool.{true, false}
+use mathlib.Core.Bool.{Bool, true, false, ◌||◌}
 use mathlib.Core.List.{List, [], ◌∷◌, ◌++◌, map}
 use lib.Ieee.{Float}
 use lib.ListN.{length, take, drop, get_or, set, drop_of_length-le, length-map, length-set}
 use lib.Seq.{sets, drop-cons, get_or-take, length-take-le}
-use Rattle.laws.specs.Lists.{flat}
+use Rattle.laws.specs.Lists.{flat, any}
 use Rattle.laws.specs.Loops.{Writing}
 use Rattle.laws.proofs.Choice.{cond_yes, cond_no}
 use Rattle.laws.proofs.Writing.{starts, goes_on, puts, ends-count, ends}
@@ -17,9 +17,8 @@ use Rattle.mechanism.specs.Piece.{same_piece}
 use Rattle.mechanism.specs.declared.features.Piece.{Piece}
 use Rattle.sides.specs.declared.PlacedDisc.{PlacedDisc}
 use Rattle.sides.specs.declared.PlacedFace.{PlacedFace}
-use Rattle.bearings.specs.declared.MaybeFace.TheVariants.{SomeFace, NoFace}
-use Rattle.bearings.specs.declared.MaybePoint.TheVariants.{SomePoint, NoPoint}
 use Rattle.bearings.specs.Bearing.{start_of_disc, end_of_disc, ends_if, ends_of, first_of, face_named, spot_of}
+use Rattle.std.proofs.Common.{Some, None}
 
 -- ---- a loop over the first n elements: element i, those after it, and the end
 module _ {A : Type 0} (l : List A) (n i : ℕ) (long : n ≤ length l) where
@@ -34,9 +33,22 @@ module _ {A : Type 0} (l : List A) (n i : ℕ) (long : n ≤ length l) where
       let k : length (take n l) ≡ n = length-take-le n l long in
       drop_of_length-le (take n l) (let g : length (take n l) ≤ i = omega arith in g)
 
+  -- whether one of those left passes: element i does, it does not, none is left
+  pub left-yes : (p : A → Bool) (d : A) → i < n → p (get_or l i d) ≡ true → any p (drop i (take n l)) ≡ true
+  unfolding any
+  left-yes p d h e = ap (any p) (next_of d h) ∙ ap (λ (b : Bool). b || any p (drop (i + 1) (take n l))) e
+
+  pub left-no : (p : A → Bool) (d : A) → i < n → p (get_or l i d) ≡ false → any p (drop i (take n l)) ≡ any p (drop (i + 1) (take n l))
+  unfolding any
+  left-no p d h e = ap (any p) (next_of d h) ∙ ap (λ (b : Bool). b || any p (drop (i + 1) (take n l))) e
+
+  pub left-none : (p : A → Bool) → n ≤ i → any p (drop i (take n l)) ≡ false
+  unfolding any
+  left-none p h = ap (any p) (none_of h)
+
 -- ---- the first face with the piece
 module _ (piece : Piece) (l : List PlacedFace) (n i : ℕ) (long : n ≤ length l) where
-  pub named-yes : (d : PlacedFace) → i < n → same_piece (get_or l i d).piece piece ≡ true → face_named piece (drop i (take n l)) ≡ SomeFace (get_or l i d).face
+  pub named-yes : (d : PlacedFace) → i < n → same_piece (get_or l i d).piece piece ≡ true → face_named piece (drop i (take n l)) ≡ Some (get_or l i d).face
   unfolding face_named
   named-yes d h e = ap (face_named piece) (next_of l n i long d h) ∙ cond_yes _ _ e
 
@@ -44,7 +56,7 @@ module _ (piece : Piece) (l : List PlacedFace) (n i : ℕ) (long : n ≤ length 
   unfolding face_named
   named-no d h e = ap (face_named piece) (next_of l n i long d h) ∙ cond_no _ _ e
 
-  pub named_none : n ≤ i → face_named piece (drop i (take n l)) ≡ NoFace
+  pub named_none : n ≤ i → face_named piece (drop i (take n l)) ≡ None
   unfolding face_named
   named_none h = ap (face_named piece) (none_of l n i long h)
 
@@ -69,14 +81,14 @@ module _ (piece : Piece) (l : List PlacedDisc) (n i : ℕ) (long : n ≤ length 
 
   -- the first one
   pub first-yes : {a : Point} (d : PlacedDisc) → i < n → same_piece (get_or l i d).piece piece ≡ true → a ≡ start_of_disc (get_or l i d).disc
-      → first_of (ends_of piece (drop i (take n l))) ≡ SomePoint a
-  first-yes d h e f = ap first_of (ends-yes d h e) ∙ ap SomePoint (sym f)
+      → first_of (ends_of piece (drop i (take n l))) ≡ Some a
+  first-yes d h e f = ap first_of (ends-yes d h e) ∙ ap Some (sym f)
 
   pub first-no : (d : PlacedDisc) → i < n → same_piece (get_or l i d).piece piece ≡ false
       → first_of (ends_of piece (drop i (take n l))) ≡ first_of (ends_of piece (drop (i + 1) (take n l)))
   first-no d h e = ap first_of (ends-no d h e)
 
-  pub first-none : n ≤ i → first_of (ends_of piece (drop i (take n l))) ≡ NoPoint
+  pub first-none : n ≤ i → first_of (ends_of piece (drop i (take n l))) ≡ None
   first-none h = ap first_of (ends-none h)
 
 -- ---- The ends of the first i of n discs are written from the front up to `at`.

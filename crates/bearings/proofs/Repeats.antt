@@ -8,12 +8,8 @@ use Rattle.mechanism.specs.Description.{pair_at}
 use Rattle.mechanism.specs.Piece.{is_disc, letter_of, part_of, seg_of, piece_in}
 use Rattle.bodies.specs.Pose.{placement_at, pose_fits}
 use Rattle.mechanism.specs.Rows.{place_row, value_row, row_in}
-use Rattle.bodies.specs.declared.Checked.{Checked}
-use Rattle.bodies.specs.declared.Checked.TheVariants.{Accepted, Refused}
 use Rattle.mechanism.specs.declared.Mechanism.{Mechanism}
 use Rattle.mechanism.specs.declared.bearing.Bearing.{Bearing}
-use Rattle.mechanism.specs.declared.bearing.MaybeBearing.{MaybeBearing}
-use Rattle.mechanism.specs.declared.bearing.MaybeBearing.TheVariants.{SomeBearing, NoBearing}
 use Rattle.mechanism.specs.declared.features.Piece.{Piece}
 use Rattle.mechanism.specs.declared.features.Piece.TheVariants.{Segment, Arc, Vertex, Center}
 use Rattle.bodies.specs.declared.pose.Placement.{Placement}
@@ -24,36 +20,34 @@ use Rattle.sides.specs.declared.SideFeatures.{SideFeatures}
 use Rattle.sides.specs.declared.contacts.PairFeatures.{PairFeatures}
 use Rattle.candidates.specs.Candidates.{faces_in, discs_in}
 use Rattle.governing.specs.Governing.{governing_of}
-use Rattle.governing.specs.declared.MaybeRow.{MaybeRow}
-use Rattle.governing.specs.declared.MaybeRow.TheVariants.{SomeRow, NoRow}
-use Rattle.bearings.specs.declared.MaybeFace.{MaybeFace}
-use Rattle.bearings.specs.declared.MaybeFace.TheVariants.{SomeFace, NoFace}
-use Rattle.bearings.specs.declared.MaybePoint.{MaybePoint}
-use Rattle.bearings.specs.declared.MaybePoint.TheVariants.{SomePoint, NoPoint}
 use Rattle.bearings.specs.Bearing.{ends_of, first_of, face_named, stop_at, stop_under, corner_on, corner_bearing, edge_on, edge_bearing, bearing_of, governed_bearing, bearing_if, bearing_from}
+use Rattle.std.proofs.Common.{Option, Some, None, Ok, Err}
+use Rattle.bodies.specs.Check.{Checked}
+use Rattle.geometry.specs.declared.signed.Face.{Face}
+use Rattle.geometry.specs.declared.Point.{Point}
 
 -- ---- a bearing of the row r
-abbrev Repeats : Row → MaybeBearing → Type 0
-Repeats r NoBearing = Unit {0}
-Repeats r (SomeBearing b) = (b.gap ≡ r.gap) × (b.point ≡ r.point)
+abbrev Repeats : Row → Option Bearing → Type 0
+Repeats r None = Unit {0}
+Repeats r (Some b) = (b.gap ≡ r.gap) × (b.point ≡ r.point)
 
 module _ (r : Row) where
-  either : (t : Bool) (x y : MaybeBearing) → Repeats r x → Repeats r y → Repeats r (cond t x y)
+  either : (t : Bool) (x y : Option Bearing) → Repeats r x → Repeats r y → Repeats r (cond t x y)
   either true x y p q = p
   either false x y p q = q
 
-  corner-on : (a : SideFeatures) (pa : Placement) (stop : MaybeFace) (pb : Placement) (e : MaybePoint) → Repeats r (corner_on a pa stop pb r e)
-  corner-on a pa stop pb NoPoint = tt
-  corner-on a pa stop pb (SomePoint p) = (refl, refl)
+  corner-on : (a : SideFeatures) (pa : Placement) (stop : Option Face) (pb : Placement) (e : Option Point) → Repeats r (corner_on a pa stop pb r e)
+  corner-on a pa stop pb None = tt
+  corner-on a pa stop pb (Some p) = (refl, refl)
 
   corner : (a : SideFeatures) (pa : Placement) (b : SideFeatures) (pb : Placement) → Repeats r (corner_bearing a pa b pb r)
   unfolding corner_bearing
   corner a pa b pb = corner-on a pa (stop_under b pb r) pb (first_of (ends_of r.feature.a (discs_in a)))
 
-  edge_on_lem : (pa : Placement) (key : MaybeFace) (pb : Placement) (stop : MaybeFace) → Repeats r (edge_on pa key pb stop r)
-  edge_on_lem pa NoFace pb stop = tt
-  edge_on_lem pa (SomeFace k) pb NoFace = (refl, refl)
-  edge_on_lem pa (SomeFace k) pb (SomeFace s) = (refl, refl)
+  edge_on_lem : (pa : Placement) (key : Option Face) (pb : Placement) (stop : Option Face) → Repeats r (edge_on pa key pb stop r)
+  edge_on_lem pa None pb stop = tt
+  edge_on_lem pa (Some k) pb None = (refl, refl)
+  edge_on_lem pa (Some k) pb (Some s) = (refl, refl)
 
   edge : (a : SideFeatures) (pa : Placement) (b : SideFeatures) (pb : Placement) → Repeats r (edge_bearing a pa b pb r)
   unfolding edge_bearing
@@ -64,42 +58,42 @@ module _ (r : Row) where
   repeats f q =
       let pa = placement_at q f.a.body in
       let pb = placement_at q f.b.body in
-      either (eqb (letter_of r.feature.b) 3) NoBearing (cond (is_disc r.feature.a) (corner_bearing f.a pa f.b pb r) (edge_bearing f.a pa f.b pb r)) tt
+      either (eqb (letter_of r.feature.b) 3) None (cond (is_disc r.feature.a) (corner_bearing f.a pa f.b pb r) (edge_bearing f.a pa f.b pb r)) tt
       (either (is_disc r.feature.a) (corner_bearing f.a pa f.b pb r) (edge_bearing f.a pa f.b pb r) (corner f.a pa f.b pb) (edge f.a pa f.b pb))
 
-pub bearing-repeats : (f : PairFeatures) (q : Pose) (r : Row) (b : Bearing) → bearing_of f q r ≡ SomeBearing b → (b.gap ≡ r.gap) × (b.point ≡ r.point)
+pub bearing-repeats : (f : PairFeatures) (q : Pose) (r : Row) (b : Bearing) → bearing_of f q r ≡ Some b → (b.gap ≡ r.gap) × (b.point ≡ r.point)
 bearing-repeats f q r b e = subst (Repeats r) e (repeats r f q)
 
 -- ---- a bearing of the governing row, if any
-abbrev Governed : (ℕ → Row) → MaybeRow → MaybeBearing → Type 0
-Governed row g NoBearing = Unit {0}
-Governed row g (SomeBearing b) = (i : ℕ) × (g ≡ SomeRow i) × (b.gap ≡ (row i).gap) × (b.point ≡ (row i).point)
+abbrev Governed : (ℕ → Row) → Option ℕ → Option Bearing → Type 0
+Governed row g None = Unit {0}
+Governed row g (Some b) = (i : ℕ) × (g ≡ Some i) × (b.gap ≡ (row i).gap) × (b.point ≡ (row i).point)
 
 module _ (q : Pose) (row : ℕ → Row) where
-  of_row : (i : ℕ) (x : MaybeBearing) → Repeats (row i) x → Governed row (SomeRow i) x
-  of_row i NoBearing p = tt
-  of_row i (SomeBearing b) p = (i, refl, p.0, p.1)
+  of_row : (i : ℕ) (x : Option Bearing) → Repeats (row i) x → Governed row (Some i) x
+  of_row i None p = tt
+  of_row i (Some b) p = (i, refl, p.0, p.1)
 
-  governed : (f : PairFeatures) (g : MaybeRow) → Governed row g (governed_bearing f q row g)
-  governed f NoRow = tt
-  governed f (SomeRow i) = of_row i (bearing_of f q (row i)) (repeats (row i) f q)
+  governed : (f : PairFeatures) (g : Option ℕ) → Governed row g (governed_bearing f q row g)
+  governed f None = tt
+  governed f (Some i) = of_row i (bearing_of f q (row i)) (repeats (row i) f q)
 
-  of_pair : (g : MaybeRow) (t : Bool) (x : MaybeBearing) → Governed row g x → Governed row g (cond t x NoBearing)
+  of_pair : (g : Option ℕ) (t : Bool) (x : Option Bearing) → Governed row g x → Governed row g (cond t x None)
   of_pair g true x p = p
   of_pair g false x p = tt
 
-  of-call : (g : MaybeRow) (c : Checked) (x : MaybeBearing) → Governed row g x → Governed row g (bearing_if c x).bearing
-  of-call g Accepted x p = p
-  of-call g (Refused z) x p = tt
-
-pub bearing-governed : (m : Mechanism) (q : Pose) (row : ℕ → Row) (n pair : ℕ) (b : Bearing) → (bearing_from m q row n pair).bearing ≡ SomeBearing b
-    → (i : ℕ) × (governing_of (λ k. (row k).pair) (λ k. (row k).gap) n pair ≡ SomeRow i) × (b.gap ≡ (row i).gap) × (b.point ≡ (row i).point)
+pub bearing-governed : (m : Mechanism) (q : Pose) (row : ℕ → Row) (n pair : ℕ) (b : Bearing) → bearing_from m q row n pair ≡ Ok (Some b)
+    → (i : ℕ) × (governing_of (λ k. (row k).pair) (λ k. (row k).gap) n pair ≡ Some i) × (b.gap ≡ (row i).gap) × (b.point ≡ (row i).point)
 bearing-governed m q row n pair b e =
     let g = governing_of (λ k. (row k).pair) (λ k. (row k).gap) n pair in
     let f = pair_features m.parts m.outlines (pair_at m.pairs pair) in
     let x = governed_bearing f q row g in
     let t = ltb pair m.pairs.count in
-    subst (Governed row g) e (of-call q row g (call_checked m (pose_fits m.bodies q) true true) (cond t x NoBearing) (of_pair q row g t x (governed q row f g)))
+    subst (Governed row g) (of-call (call_checked m (pose_fits m.bodies q) true true) (cond t x None) e) (of_pair q row g t x (governed q row f g))
+  where
+    of-call : (c : Checked) (x : Option Bearing) → bearing_if c x ≡ Ok (Some b) → x ≡ Some b
+    of-call (Ok tt) x h = cc
+    of-call (Err z) x h = absurd cc
 
 -- ---- a row written into the two arrays and read again
 piece-again : (p : Piece) → piece_in (letter_of p) (part_of p) (seg_of p) ≡ p

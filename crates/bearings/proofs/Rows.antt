@@ -14,8 +14,6 @@ use Rattle.laws.proofs.Choice.{cond_yes, cond_no}
 use Rattle.laws.proofs.Lists.{list_get, list_length}
 use Rattle.mechanism.specs.Piece.{letter_of, is_disc, same_piece}
 use Rattle.bodies.specs.Pose.{placement_at, world_of}
-use Rattle.mechanism.specs.declared.bearing.MaybeBearing.{MaybeBearing}
-use Rattle.mechanism.specs.declared.bearing.MaybeBearing.TheVariants.{NoBearing}
 use Rattle.mechanism.specs.declared.bearing.HowItBears.TheVariants.{KeyCorner}
 use Rattle.mechanism.specs.declared.features.Piece.{Piece}
 use Rattle.bodies.specs.declared.pose.Placement.{Placement}
@@ -32,13 +30,11 @@ use Rattle.strips.specs.declared.SideFacts.{SideFacts}
 use Rattle.strips.proofs.Bounds.{side-small}
 use Rattle.candidates.specs.Candidates.{faces_in, discs_in}
 use Rattle.faces.proofs.Rows.{take-list}
-use Rattle.governing.specs.declared.MaybeRow.{MaybeRow}
-use Rattle.governing.specs.declared.MaybeRow.TheVariants.{SomeRow, NoRow}
 use Rattle.bearings.specs.Bearing.{meets, ends_of, first_of, face_named, best_face, facing_of, reach_of, toward_of, slope_between, bears_as, edge_on, stop_at, stop_under, key_at, corner_on, corner_bearing, edge_bearing, bearing_of, governed_bearing}
 use Rattle.bearings.specs.Prepared.{stop_at_in, stop_under_in, key_at_in, corner_on_in, corner_bearing_in, edge_bearing_in, bearing_in}
-use Rattle.bearings.specs.declared.MaybeFace.{MaybeFace}
-use Rattle.bearings.specs.declared.MaybePoint.{MaybePoint}
-use Rattle.bearings.specs.declared.MaybePoint.TheVariants.{SomePoint, NoPoint}
+use Rattle.std.proofs.Common.{Option, Some, None}
+use Rattle.geometry.specs.declared.signed.Face.{Face}
+use Rattle.mechanism.specs.declared.bearing.Bearing.{Bearing}
 
 -- ---- a list made by an index, walked as the first n elements of an array
 module _ {A : Type 0} (f : ℕ → A) (n : ℕ) where
@@ -66,11 +62,11 @@ abbrev pub placed_disc : List (List Float) → List (List ℕ) → ℕ → ℕ �
 placed_disc discs names first i = record { piece = piece_at names (first + i); disc = disc_at discs (first + i) }
 
 -- ---- the bearing of a row: x on a corner of the key, y on an edge of the stop; l is the letter of the piece on B
-abbrev chosen : Row → MaybeBearing → MaybeBearing → MaybeBearing
-chosen r x y = cond (eqb (letter_of r.feature.b) 3) NoBearing (cond (is_disc r.feature.a) x y)
+abbrev chosen : Row → Option Bearing → Option Bearing → Option Bearing
+chosen r x y = cond (eqb (letter_of r.feature.b) 3) None (cond (is_disc r.feature.a) x y)
 
-module _ (r : Row) (x y : MaybeBearing) {l : ℕ} (e : l ≡ letter_of r.feature.b) where
-  pub chosen_none : l ≡ 3 → NoBearing ≡ chosen r x y
+module _ (r : Row) (x y : Option Bearing) {l : ℕ} (e : l ≡ letter_of r.feature.b) where
+  pub chosen_none : l ≡ 3 → None ≡ chosen r x y
   chosen_none h = sym (cond_yes _ _ (eq-eqb _ 3 (sym e ∙ h)))
 
   module _ {t : Bool} (h : l ≡ 3 → ⊥) (g : t ≡ is_disc r.feature.a) where
@@ -96,29 +92,29 @@ module _ (faces : List (List Float)) (fnames : List (List ℕ)) (discs : List (L
 
     under_same : (place : Placement) (r : Row) → stop_under_in faces fnames discs dnames s place r ≡ stop_under f place r
     under_same place r =
-        ap₂ (λ (fs : List PlacedFace) (x : MaybeFace). cond (eqb (letter_of r.feature.b) 0) (face_named r.feature.b fs) x) e.of_faces (stop_same place r)
+        ap₂ (λ (fs : List PlacedFace) (x : Option Face). cond (eqb (letter_of r.feature.b) 0) (face_named r.feature.b fs) x) e.of_faces (stop_same place r)
 
     key_same : (place : Placement) (piece : Piece) (corner toward : Point) → key_at_in faces fnames discs dnames s place piece corner toward ≡ key_at f place piece corner toward
     unfolding key_at_in key_at
     key_same place piece corner toward =
         ap₂ (λ (ds : List PlacedDisc) (fs : List PlacedFace). best_face (meets (ends_of piece ds)) (reach_of place corner toward) fs) e.of_discs e.of_faces
 
-    on_same : (pa : Placement) (stop : MaybeFace) (pb : Placement) (r : Row) (p : MaybePoint) → corner_on_in faces fnames discs dnames s pa stop pb r p ≡ corner_on f pa stop pb r p
-    on_same pa stop pb r NoPoint = refl
-    on_same pa stop pb r (SomePoint p) =
-        ap (λ (k : MaybeFace). bears_as KeyCorner r (slope_between pb stop pa k)) (key_same pa r.feature.a (world_of pa p) (toward_of pb stop r.point))
+    on_same : (pa : Placement) (stop : Option Face) (pb : Placement) (r : Row) (p : Option Point) → corner_on_in faces fnames discs dnames s pa stop pb r p ≡ corner_on f pa stop pb r p
+    on_same pa stop pb r None = refl
+    on_same pa stop pb r (Some p) =
+        ap (λ (k : Option Face). bears_as KeyCorner r (slope_between pb stop pa k)) (key_same pa r.feature.a (world_of pa p) (toward_of pb stop r.point))
 
   module _ {s t : SideFacts} {f g : SideFeatures} (d : Same s f) (e : Same t g) where
     corner-same : (pa pb : Placement) (r : Row) → corner_bearing_in faces fnames discs dnames s pa t pb r ≡ corner_bearing f pa g pb r
     unfolding corner_bearing_in corner_bearing
     corner-same pa pb r =
-        ap₂ (λ (x : MaybeFace) (ds : List PlacedDisc). corner_on_in faces fnames discs dnames s pa x pb r (first_of (ends_of r.feature.a ds))) (under_same e pb r) d.of_discs
+        ap₂ (λ (x : Option Face) (ds : List PlacedDisc). corner_on_in faces fnames discs dnames s pa x pb r (first_of (ends_of r.feature.a ds))) (under_same e pb r) d.of_discs
         ∙ on_same d pa (stop_under g pb r) pb r (first_of (ends_of r.feature.a (discs_in f)))
 
     edge_same : (pa pb : Placement) (r : Row) → edge_bearing_in faces fnames discs dnames s pa t pb r ≡ edge_bearing f pa g pb r
     unfolding edge_bearing_in edge_bearing
     edge_same pa pb r =
-        ap₂ (λ (fs : List PlacedFace) (x : MaybeFace). edge_on pa (face_named r.feature.a fs) pb x r) d.of_faces (stop_same e pb r)
+        ap₂ (λ (fs : List PlacedFace) (x : Option Face). edge_on pa (face_named r.feature.a fs) pb x r) d.of_faces (stop_same e pb r)
 
     bearing-same : (q : Pose) (r : Row) → bearing_in faces fnames discs dnames s t q r ≡ bearing_of (record { a = f; b = g }) q r
     unfolding bearing_in bearing_of
@@ -143,7 +139,7 @@ module _ (faces : List (List Float)) (fnames : List (List ℕ)) (discs : List (L
     unfolding pair_in
     bearing-read centers i q r = bearing-same (side_same centers (row_a i)) (side_same centers (row_b i)) q r
 
-    pub governed-read : (centers : List (List Float)) (i : ℕ) (q : Pose) (row : ℕ → Row) (g : MaybeRow)
+    pub governed-read : (centers : List (List Float)) (i : ℕ) (q : Pose) (row : ℕ → Row) (g : Option ℕ)
         → governed_bearing (pair_in faces fnames discs dnames sides centers i) q row g ≡ governed_bearing (pair_in faces fnames discs dnames sides [] i) q row g
-    governed-read centers i q row NoRow = refl
-    governed-read centers i q row (SomeRow k) = sym (bearing-read centers i q (row k)) ∙ bearing-read [] i q (row k)
+    governed-read centers i q row None = refl
+    governed-read centers i q row (Some k) = sym (bearing-read centers i q (row k)) ∙ bearing-read [] i q (row k)

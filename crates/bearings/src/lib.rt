@@ -9,21 +9,20 @@ ghost use Rattle.mechanism.specs.Rows.{pair_in, gap_in};
 ghost use Rattle.candidates.specs.Candidates.{faces_in, discs_in};
 ghost use Rattle.governing.specs.Governing.{governing_of, records_in};
 ghost use Rattle.bearings.specs.Bearing.{at_end, meets_row, spot_of, ends_of, first_of, face_named, facing_of, reach_of, score_of, best_face, run_of, alongside, slope_along, slope_of, slope_between, spans, is_level, is_flat, bears_as, stop_at, stop_under, toward_of, key_at, corner_bearing, edge_on, edge_bearing, bearing_of, governed_bearing, row_at};
-ghost use Rattle.bearings.specs.declared.MaybeFace.TheVariants.{SomeFace};
 
 pub mod prepared;
 
-use bodies::Checked;
+use bodies::Problem;
 use bodies::pose::{Placement, Pose, placement_at};
 use faces::along;
 use geometry::signed::{Disc, Face, cross, dot, sub};
-use geometry::{Dir, MaybeDir, Point, on_circle};
-use governing::{MaybeRow, governing_in};
+use geometry::{Dir, Point, on_circle};
+use governing::governing_in;
 use ieee::num::abs;
 use ieee::order::total_order;
 use ieee::root::root;
 use material::Spot;
-use mechanism::bearing::{Bearing, HowItBears, MaybeBearing, MaybeSlope};
+use mechanism::bearing::{Bearing, HowItBears};
 use mechanism::check::same_point;
 use mechanism::features::{Feature, Piece, letter, part, seg};
 use mechanism::rows::{Place, Row, Value, row_from};
@@ -32,25 +31,6 @@ use sides::{PlacedDisc, PlacedFace, SideFeatures};
 
 // FLAT_WITHIN: how far the far edge of a stop's face may stand off for the faces to count as bedded flat, in metres.
 pub const FLAT_WITHIN: f64 = 2.5e-6;
-
-#[derive(Clone, Copy)]
-pub enum MaybeFace {
-    SomeFace(Face),
-    NoFace,
-}
-
-#[derive(Clone, Copy)]
-pub enum MaybePoint {
-    SomePoint(Point),
-    NoPoint,
-}
-
-// How a pair bears, if it does, or the first refusal that applies.
-#[derive(Clone, Copy)]
-pub struct BearingAnswer {
-    pub checked: Checked,
-    pub bearing: MaybeBearing,
-}
 
 // What faces are scored by: how far they run from a corner toward a point, or how they face along a direction.
 #[derive(Clone, Copy)]
@@ -72,9 +52,7 @@ fn same_piece(p: Piece, r: Piece) -> bool
 fn at_end(f: Face, e: Point) -> bool
     ensures { result ≡ at_end f e }
 {
-    let a = f.a;
-    let b = f.b;
-    same_point(e, a) | same_point(e, b)
+    same_point(e, f.a) | same_point(e, f.b)
 }
 
 // How many discs an array of twenty-eight holds.
@@ -98,16 +76,12 @@ fn put_ends(ends: &mut [Spot], s: SideFeatures, piece: Piece) -> usize
 {
     let m = discs(s);
     let mut at: usize = 0;
-    let mut i: usize = 0;
-    while i < m {
+    for i in 0..m {
         let p = s.disc[i];
-        let x = p.piece;
-        let d = p.disc;
-        i += 1;
-        if same_piece(x, piece) {
-            let c = d.center;
-            let a = on_circle(c, d.radius, d.from);
-            let b = on_circle(c, d.radius, d.to);
+        if same_piece(p.piece, piece) {
+            let d = p.disc;
+            let a = on_circle(d.center, d.radius, d.from);
+            let b = on_circle(d.center, d.radius, d.to);
             ends[at] = [a.x, a.y];
             ends[at + 1] = [b.x, b.y];
             at += 2;
@@ -121,12 +95,9 @@ fn meets_any(ends: &[Spot], n: usize, f: Face) -> bool
     requires { n ≤ length ends.now }
     ensures { result ≡ any (meets_row f) (take n ends.now) }
 {
-    let mut i: usize = 0;
-    while i < n {
+    for i in 0..n {
         let s = ends[i];
-        i += 1;
-        let e = Point { x: s[0], y: s[1] };
-        if at_end(f, e) {
+        if at_end(f, Point { x: s[0], y: s[1] }) {
             return true;
         }
     }
@@ -134,40 +105,32 @@ fn meets_any(ends: &[Spot], n: usize, f: Face) -> bool
 }
 
 // The first end of the piece.
-fn first_end(s: SideFeatures, piece: Piece) -> MaybePoint
+fn first_end(s: SideFeatures, piece: Piece) -> Option<Point>
     ensures { result ≡ first_of (ends_of piece (discs_in s)) }
 {
     let m = discs(s);
-    let mut i: usize = 0;
-    while i < m {
+    for i in 0..m {
         let p = s.disc[i];
-        let x = p.piece;
-        let d = p.disc;
-        i += 1;
-        if same_piece(x, piece) {
-            let c = d.center;
-            return MaybePoint::SomePoint(on_circle(c, d.radius, d.from));
+        if same_piece(p.piece, piece) {
+            let d = p.disc;
+            return Some(on_circle(d.center, d.radius, d.from));
         }
     }
-    MaybePoint::NoPoint
+    None
 }
 
 // The first face with the piece.
-fn face_named(s: SideFeatures, piece: Piece) -> MaybeFace
+fn face_named(s: SideFeatures, piece: Piece) -> Option<Face>
     ensures { result ≡ face_named piece (faces_in s) }
 {
     let m = faces(s);
-    let mut i: usize = 0;
-    while i < m {
+    for i in 0..m {
         let p = s.face[i];
-        let x = p.piece;
-        let f = p.face;
-        i += 1;
-        if same_piece(x, piece) {
-            return MaybeFace::SomeFace(f);
+        if same_piece(p.piece, piece) {
+            return Some(p.face);
         }
     }
-    MaybeFace::NoFace
+    None
 }
 
 // ---- scores
@@ -210,33 +173,27 @@ fn score(k: Aim, f: Face) -> f64
 }
 
 // Of the faces that meet one of the first n ends the last with the highest score.
-fn best_face(s: SideFeatures, ends: &[Spot], n: usize, k: Aim) -> MaybeFace
+fn best_face(s: SideFeatures, ends: &[Spot], n: usize, k: Aim) -> Option<Face>
     requires { n ≤ length ends.now }
     ensures { result ≡ best_face (λ f. any (meets_row f) (take n ends.now)) (score_of k) (faces_in s) }
 {
     let m = faces(s);
     let mut best = m;
     let mut top = 0.0;
-    let mut i: usize = 0;
-    while i < m {
-        let p = s.face[i];
-        let f = p.face;
-        let j = i;
-        i += 1;
+    for i in 0..m {
+        let f = s.face[i].face;
         if meets_any(ends, n, f) {
             let x = score(k, f);
             if (best == m) | total_order(top, x) {
-                best = j;
+                best = i;
                 top = x;
             }
         }
     }
     if best < m {
-        let p = s.face[best];
-        let f = p.face;
-        return MaybeFace::SomeFace(f);
+        return Some(s.face[best].face);
     }
-    MaybeFace::NoFace
+    None
 }
 
 // ---- slopes
@@ -249,14 +206,14 @@ fn run(place: Placement, f: Face) -> Point
 }
 
 // The tangent of the angle from s to k, k turned round where it runs the other way.
-fn slope_along(s: Point, k: Point) -> MaybeSlope
+fn slope_along(s: Point, k: Point) -> Option<f64>
     ensures { result ≡ slope_along s k }
 {
     let x = dot(s, k);
     if x == 0.0 {
-        return MaybeSlope::NoSlope;
+        return None;
     }
-    MaybeSlope::SomeSlope(cross(s, k) / x)
+    Some(cross(s, k) / x)
 }
 
 fn turned_along(s: Point, k: Point) -> Point
@@ -267,31 +224,20 @@ fn turned_along(s: Point, k: Point) -> Point
 }
 
 // The slope of the key's face over the stop's.
-fn slope(pb: Placement, stop: Face, pa: Placement, key: Face) -> MaybeSlope
+#[tactic(auto, unfolding(crate::specs::Bearing::slope_of))]
+fn slope(pb: Placement, stop: Face, pa: Placement, key: Face) -> Option<f64>
     ensures { result ≡ slope_of pb stop pa key }
 {
     let s = run(pb, stop);
     let k = run(pa, key);
-    let found = Dir::new(s.x, s.y);
-    match found {
-        MaybeDir::SomeDir(d) => {
-            let v = d.vector();
-            slope_along(v, turned_along(v, k))
-        }
-        MaybeDir::NoDir => MaybeSlope::NoSlope,
-    }
+    let v = Dir::new(s.x, s.y)?.vector();
+    slope_along(v, turned_along(v, k))
 }
 
-fn slope_between(pb: Placement, stop: MaybeFace, pa: Placement, key: MaybeFace) -> MaybeSlope
+fn slope_between(pb: Placement, stop: Option<Face>, pa: Placement, key: Option<Face>) -> Option<f64>
     ensures { result ≡ slope_between pb stop pa key }
 {
-    match stop {
-        MaybeFace::SomeFace(s) => match key {
-            MaybeFace::SomeFace(k) => slope(pb, s, pa, k),
-            MaybeFace::NoFace => MaybeSlope::NoSlope,
-        },
-        MaybeFace::NoFace => MaybeSlope::NoSlope,
-    }
+    slope(pb, stop?, pa, key?)
 }
 
 // ---- flat
@@ -305,16 +251,16 @@ fn is_spanned(place: Placement, f: Face, p: Point) -> bool
     (0.0 <= t) & (t <= 1.0)
 }
 
-fn is_level(slope: MaybeSlope, length: f64) -> bool
+fn is_level(slope: Option<f64>, length: f64) -> bool
     ensures { result ≡ is_level slope length }
 {
     match slope {
-        MaybeSlope::SomeSlope(x) => abs(x) * length <= FLAT_WITHIN,
-        MaybeSlope::NoSlope => false,
+        Some(x) => abs(x) * length <= FLAT_WITHIN,
+        None => false,
     }
 }
 
-fn is_flat(pb: Placement, stop: Face, pa: Placement, key: Face, slope: MaybeSlope) -> bool
+fn is_flat(pb: Placement, stop: Face, pa: Placement, key: Face, slope: Option<f64>) -> bool
     ensures { result ≡ is_flat pb stop pa key slope }
 {
     let r = run(pb, stop);
@@ -326,11 +272,11 @@ fn is_flat(pb: Placement, stop: Face, pa: Placement, key: Face, slope: MaybeSlop
 
 // ---- the bearing that a row shows
 
-fn bears_as(how: HowItBears, r: Row, slope: MaybeSlope) -> MaybeBearing
+fn bears_as(how: HowItBears, r: Row, slope: Option<f64>) -> Option<Bearing>
     ensures { result ≡ bears_as how r slope }
 {
     let point = r.point;
-    MaybeBearing::SomeBearing(Bearing {
+    Some(Bearing {
         how,
         gap: r.gap,
         point,
@@ -339,7 +285,7 @@ fn bears_as(how: HowItBears, r: Row, slope: MaybeSlope) -> MaybeBearing
 }
 
 // The stop's face at a disc of its own.
-fn stop_at(b: SideFeatures, place: Placement, r: Row) -> MaybeFace
+fn stop_at(b: SideFeatures, place: Placement, r: Row) -> Option<Face>
     ensures { result ≡ stop_at b place r }
 {
     let feature = r.feature;
@@ -357,7 +303,7 @@ fn stop_at(b: SideFeatures, place: Placement, r: Row) -> MaybeFace
 }
 
 // The stop's face under a corner of the key.
-fn stop_under(b: SideFeatures, place: Placement, r: Row) -> MaybeFace
+fn stop_under(b: SideFeatures, place: Placement, r: Row) -> Option<Face>
     ensures { result ≡ stop_under b place r }
 {
     let feature = r.feature;
@@ -369,11 +315,11 @@ fn stop_under(b: SideFeatures, place: Placement, r: Row) -> MaybeFace
 }
 
 // The middle of the stop's face, or the row's point without one.
-fn toward(place: Placement, stop: MaybeFace, p: Point) -> Point
+fn toward(place: Placement, stop: Option<Face>, p: Point) -> Point
     ensures { result ≡ toward_of place stop p }
 {
     match stop {
-        MaybeFace::SomeFace(f) => {
+        Some(f) => {
             let s = place.world(f.a);
             let e = place.world(f.b);
             Point {
@@ -381,7 +327,7 @@ fn toward(place: Placement, stop: MaybeFace, p: Point) -> Point
                 y: 0.5 * (s.y + e.y),
             }
         }
-        MaybeFace::NoFace => p,
+        None => p,
     }
 }
 
@@ -392,7 +338,7 @@ fn key_at(
     piece: Piece,
     corner: Point,
     toward: Point,
-) -> MaybeFace
+) -> Option<Face>
     ensures { result ≡ key_at a place piece corner toward }
 {
     let mut ends = [[0.0; 2]; 56];
@@ -407,65 +353,55 @@ fn key_at(
 }
 
 // On a corner of the key.
+#[tactic(auto, unfolding(crate::specs::Bearing::corner_bearing))]
 fn corner_bearing(
     a: SideFeatures,
     pa: Placement,
     b: SideFeatures,
     pb: Placement,
     r: Row,
-) -> MaybeBearing
+) -> Option<Bearing>
     ensures { result ≡ corner_bearing a pa b pb r }
 {
-    let feature = r.feature;
-    let piece = feature.a;
-    let found = first_end(a, piece);
-    match found {
-        MaybePoint::SomePoint(p) => {
-            let stop = stop_under(b, pb, r);
-            let point = r.point;
-            let key = key_at(a, pa, piece, pa.world(p), toward(pb, stop, point));
-            bears_as(HowItBears::KeyCorner, r, slope_between(pb, stop, pa, key))
-        }
-        MaybePoint::NoPoint => MaybeBearing::NoBearing,
-    }
+    let piece = r.feature.a;
+    let p = first_end(a, piece)?;
+    let stop = stop_under(b, pb, r);
+    let key = key_at(a, pa, piece, pa.world(p), toward(pb, stop, r.point));
+    bears_as(HowItBears::KeyCorner, r, slope_between(pb, stop, pa, key))
 }
 
-fn edge_on(pa: Placement, key: Face, pb: Placement, stop: MaybeFace, r: Row) -> MaybeBearing
-    ensures { result ≡ edge_on pa (SomeFace key) pb stop r }
+fn edge_on(pa: Placement, key: Face, pb: Placement, stop: Option<Face>, r: Row) -> Option<Bearing>
+    ensures { result ≡ edge_on pa (Some key) pb stop r }
 {
     match stop {
-        MaybeFace::SomeFace(s) => {
+        Some(s) => {
             let x = slope(pb, s, pa, key);
             if is_flat(pb, s, pa, key, x) {
                 return bears_as(HowItBears::Flat, r, x);
             }
             bears_as(HowItBears::StopEdge, r, x)
         }
-        MaybeFace::NoFace => bears_as(HowItBears::StopEdge, r, MaybeSlope::NoSlope),
+        None => bears_as(HowItBears::StopEdge, r, None),
     }
 }
 
 // On an edge of the stop, or flat.
+#[tactic(auto, unfolding(crate::specs::Bearing::edge_bearing))]
 fn edge_bearing(
     a: SideFeatures,
     pa: Placement,
     b: SideFeatures,
     pb: Placement,
     r: Row,
-) -> MaybeBearing
+) -> Option<Bearing>
     ensures { result ≡ edge_bearing a pa b pb r }
 {
-    let feature = r.feature;
-    let piece = feature.a;
-    let found = face_named(a, piece);
-    match found {
-        MaybeFace::SomeFace(key) => edge_on(pa, key, pb, stop_at(b, pb, r), r),
-        MaybeFace::NoFace => MaybeBearing::NoBearing,
-    }
+    let key = face_named(a, r.feature.a)?;
+    edge_on(pa, key, pb, stop_at(b, pb, r), r)
 }
 
 // How side A bears on side B by a row of theirs.
-pub fn bearing_of(f: PairFeatures, q: Pose, r: Row) -> MaybeBearing
+pub fn bearing_of(f: PairFeatures, q: Pose, r: Row) -> Option<Bearing>
     ensures { result ≡ bearing_of f q r }
 {
     let a = f.a;
@@ -476,7 +412,7 @@ pub fn bearing_of(f: PairFeatures, q: Pose, r: Row) -> MaybeBearing
     let on_a = feature.a;
     let on_b = feature.b;
     if letter(on_b) == 3 {
-        return MaybeBearing::NoBearing;
+        return None;
     }
     if on_a.is_disc() {
         return corner_bearing(a, pa, b, pb, r);
@@ -492,12 +428,9 @@ pub fn governed(
     values: &[Value],
     n: usize,
     pair: usize,
-) -> MaybeBearing
+) -> Option<Bearing>
     ensures { result ≡ governed_bearing f q (row_at places.now values.now) (governing_of (pair_in places.now) (gap_in values.now) (records_in n (length places.now) (length values.now)) pair) }
 {
-    let found = governing_in(places, values, n, pair);
-    match found {
-        MaybeRow::SomeRow(i) => bearing_of(f, q, row_from(places[i], values[i])),
-        MaybeRow::NoRow => MaybeBearing::NoBearing,
-    }
+    let i = governing_in(places, values, n, pair)?;
+    bearing_of(f, q, row_from(places[i], values[i]))
 }

@@ -8,17 +8,14 @@ ghost use Rattle.strips.specs.Strips.{faces_from, discs_from, pair_in, SmallSide
 ghost use Rattle.bearings.specs.Bearing.{meets_row, spot_of, ends_of, first_of, face_named, score_of, best_face, governed_bearing, row_at};
 ghost use Rattle.bearings.specs.Prepared.{stop_at_in, stop_under_in, key_at_in, corner_bearing_in, edge_bearing_in, bearing_in};
 
-use super::{
-    Aim, MaybeFace, MaybePoint, bears_as, edge_on, meets_any, same_piece, score, slope_between,
-    toward,
-};
+use super::{Aim, bears_as, edge_on, meets_any, same_piece, score, slope_between, toward};
 use bodies::pose::{Placement, Pose, placement_at};
 use geometry::signed::{Disc, Face};
 use geometry::{Dir, Point, on_circle};
-use governing::{MaybeRow, governing_in};
+use governing::governing_in;
 use ieee::order::total_order;
 use material::Spot;
-use mechanism::bearing::{Bearing, HowItBears, MaybeBearing, MaybeSlope};
+use mechanism::bearing::{Bearing, HowItBears};
 use mechanism::features::{Feature, Piece, letter};
 use mechanism::rows::{Place, Row, Value, row_from};
 use strips::{
@@ -39,15 +36,12 @@ fn put_ends(
     ensures { (result ≡ length (ends_of piece (discs_from discs.now first names.now first n))) × (result ≤ 56) × (ends.new ≡ sets ends.old 0 (map spot_of (ends_of piece (discs_from discs.now first names.now first n)))) }
 {
     let mut at: usize = 0;
-    let mut i: usize = 0;
-    while i < n {
+    for i in 0..n {
         let k = first + i;
-        i += 1;
         if same_piece(piece_at(names, k), piece) {
             let d = disc_at(discs, k);
-            let c = d.center;
-            let a = on_circle(c, d.radius, d.from);
-            let b = on_circle(c, d.radius, d.to);
+            let a = on_circle(d.center, d.radius, d.from);
+            let b = on_circle(d.center, d.radius, d.to);
             ends[at] = [a.x, a.y];
             ends[at + 1] = [b.x, b.y];
             at += 2;
@@ -63,21 +57,18 @@ fn first_end(
     first: usize,
     n: usize,
     piece: Piece,
-) -> MaybePoint
+) -> Option<Point>
     requires { (first ≤ 65535) × (n ≤ 28) }
     ensures { result ≡ first_of (ends_of piece (discs_from discs.now first names.now first n)) }
 {
-    let mut i: usize = 0;
-    while i < n {
+    for i in 0..n {
         let k = first + i;
-        i += 1;
         if same_piece(piece_at(names, k), piece) {
             let d = disc_at(discs, k);
-            let c = d.center;
-            return MaybePoint::SomePoint(on_circle(c, d.radius, d.from));
+            return Some(on_circle(d.center, d.radius, d.from));
         }
     }
-    MaybePoint::NoPoint
+    None
 }
 
 // The first face with the piece.
@@ -87,19 +78,17 @@ fn face_named(
     first: usize,
     n: usize,
     piece: Piece,
-) -> MaybeFace
+) -> Option<Face>
     requires { (first ≤ 65535) × (n ≤ 12) }
     ensures { result ≡ face_named piece (faces_from faces.now first names.now first n) }
 {
-    let mut i: usize = 0;
-    while i < n {
+    for i in 0..n {
         let k = first + i;
-        i += 1;
         if same_piece(piece_at(names, k), piece) {
-            return MaybeFace::SomeFace(face_at(faces, k));
+            return Some(face_at(faces, k));
         }
     }
-    MaybeFace::NoFace
+    None
 }
 
 // Of the n faces from row `first` on that meet one of the ends the last with the highest score.
@@ -111,29 +100,26 @@ fn best_face(
     ends: &[Spot],
     m: usize,
     k: Aim,
-) -> MaybeFace
+) -> Option<Face>
     requires { (m ≤ length ends.now) × (first ≤ 65535) × (n ≤ 12) }
     ensures { result ≡ best_face (λ f. any (meets_row f) (take m ends.now)) (score_of k) (faces_from faces.now first names.now first n) }
 {
     let mut best = n;
     let mut top = 0.0;
-    let mut i: usize = 0;
-    while i < n {
+    for i in 0..n {
         let f = face_at(faces, first + i);
-        let j = i;
-        i += 1;
         if meets_any(ends, m, f) {
             let x = score(k, f);
             if (best == n) | total_order(top, x) {
-                best = j;
+                best = i;
                 top = x;
             }
         }
     }
     if best < n {
-        return MaybeFace::SomeFace(face_at(faces, first + best));
+        return Some(face_at(faces, first + best));
     }
-    MaybeFace::NoFace
+    None
 }
 
 // The stop's face at a disc of its own.
@@ -145,7 +131,7 @@ fn stop_at(
     b: SideFacts,
     place: Placement,
     r: Row,
-) -> MaybeFace
+) -> Option<Face>
     requires { SmallSide b }
     ensures { result ≡ stop_at_in faces.now fnames.now discs.now dnames.now b place r }
 {
@@ -171,7 +157,7 @@ fn stop_under(
     b: SideFacts,
     place: Placement,
     r: Row,
-) -> MaybeFace
+) -> Option<Face>
     requires { SmallSide b }
     ensures { result ≡ stop_under_in faces.now fnames.now discs.now dnames.now b place r }
 {
@@ -193,7 +179,7 @@ fn key_at(
     piece: Piece,
     corner: Point,
     toward: Point,
-) -> MaybeFace
+) -> Option<Face>
     requires { SmallSide a }
     ensures { result ≡ key_at_in faces.now fnames.now discs.now dnames.now a place piece corner toward }
 {
@@ -208,6 +194,7 @@ fn key_at(
     best_face(faces, fnames, a.face, a.faces, &ends, n, k)
 }
 
+#[tactic(auto, unfolding(crate::specs::Prepared::corner_bearing_in))]
 fn corner_bearing(
     faces: &[FaceRow],
     fnames: &[PieceRow],
@@ -218,34 +205,20 @@ fn corner_bearing(
     b: SideFacts,
     pb: Placement,
     r: Row,
-) -> MaybeBearing
+) -> Option<Bearing>
     requires { SmallSide a × SmallSide b }
     ensures { result ≡ corner_bearing_in faces.now fnames.now discs.now dnames.now a pa b pb r }
 {
-    let feature = r.feature;
-    let piece = feature.a;
-    let found = first_end(discs, dnames, a.disc, a.discs, piece);
-    match found {
-        MaybePoint::SomePoint(p) => {
-            let stop = stop_under(faces, fnames, discs, dnames, b, pb, r);
-            let point = r.point;
-            let key = key_at(
-                faces,
-                fnames,
-                discs,
-                dnames,
-                a,
-                pa,
-                piece,
-                pa.world(p),
-                toward(pb, stop, point),
-            );
-            bears_as(HowItBears::KeyCorner, r, slope_between(pb, stop, pa, key))
-        }
-        MaybePoint::NoPoint => MaybeBearing::NoBearing,
-    }
+    let piece = r.feature.a;
+    let p = first_end(discs, dnames, a.disc, a.discs, piece)?;
+    let stop = stop_under(faces, fnames, discs, dnames, b, pb, r);
+    let corner = pa.world(p);
+    let way = toward(pb, stop, r.point);
+    let key = key_at(faces, fnames, discs, dnames, a, pa, piece, corner, way);
+    bears_as(HowItBears::KeyCorner, r, slope_between(pb, stop, pa, key))
 }
 
+#[tactic(auto, unfolding(crate::specs::Prepared::edge_bearing_in))]
 fn edge_bearing(
     faces: &[FaceRow],
     fnames: &[PieceRow],
@@ -256,25 +229,13 @@ fn edge_bearing(
     b: SideFacts,
     pb: Placement,
     r: Row,
-) -> MaybeBearing
+) -> Option<Bearing>
     requires { SmallSide a × SmallSide b }
     ensures { result ≡ edge_bearing_in faces.now fnames.now discs.now dnames.now a pa b pb r }
 {
-    let feature = r.feature;
-    let piece = feature.a;
-    let found = face_named(faces, fnames, a.face, a.faces, piece);
-    match found {
-        MaybeFace::SomeFace(key) => {
-            edge_on(
-                pa,
-                key,
-                pb,
-                stop_at(faces, fnames, discs, dnames, b, pb, r),
-                r,
-            )
-        }
-        MaybeFace::NoFace => MaybeBearing::NoBearing,
-    }
+    let key = face_named(faces, fnames, a.face, a.faces, r.feature.a)?;
+    let stop = stop_at(faces, fnames, discs, dnames, b, pb, r);
+    edge_on(pa, key, pb, stop, r)
 }
 
 fn bearing_of(
@@ -286,7 +247,7 @@ fn bearing_of(
     b: SideFacts,
     q: Pose,
     r: Row,
-) -> MaybeBearing
+) -> Option<Bearing>
     requires { SmallSide a × SmallSide b }
     ensures { result ≡ bearing_in faces.now fnames.now discs.now dnames.now a b q r }
 {
@@ -296,7 +257,7 @@ fn bearing_of(
     let on_a = feature.a;
     let on_b = feature.b;
     if letter(on_b) == 3 {
-        return MaybeBearing::NoBearing;
+        return None;
     }
     if on_a.is_disc() {
         return corner_bearing(faces, fnames, discs, dnames, a, pa, b, pb, r);
@@ -316,21 +277,20 @@ pub fn governed_in(
     values: &[Value],
     n: usize,
     pair: usize,
-) -> MaybeBearing
+) -> Option<Bearing>
     ensures { result ≡ governed_bearing (pair_in faces.now fnames.now discs.now dnames.now sides.now [] pair) q (row_at places.now values.now) (governing_of (namedPair places.now) (gap_in values.now) (records_in n (length places.now) (length values.now)) pair) }
 {
-    let found = governing_in(places, values, n, pair);
-    match found {
-        MaybeRow::SomeRow(i) => bearing_of(
-            faces,
-            fnames,
-            discs,
-            dnames,
-            side_at(sides, row_a(pair)),
-            side_at(sides, row_b(pair)),
-            q,
-            row_from(places[i], values[i]),
-        ),
-        MaybeRow::NoRow => MaybeBearing::NoBearing,
-    }
+    let i = governing_in(places, values, n, pair)?;
+    let a = side_at(sides, row_a(pair));
+    let b = side_at(sides, row_b(pair));
+    bearing_of(
+        faces,
+        fnames,
+        discs,
+        dnames,
+        a,
+        b,
+        q,
+        row_from(places[i], values[i]),
+    )
 }

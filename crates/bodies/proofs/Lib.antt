@@ -1,3 +1,4 @@
 pub mod Walk
 pub mod Known
 pub mod Checks
+pub mod Turns

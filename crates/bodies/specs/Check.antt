@@ -1,10 +1,9 @@
 -- Document 01's refusals, their numbers and places, the first that applies, and those of the bodies by themselves (3 to 5). Definitions only.
-use Rattle.std.specs.Prelude.{ℕ, ◌+◌, Bool, true, false, not, cond, ◌&&◌, ◌||◌, ltb, leb}
-use Rattle.laws.specs.Loops.{any_in, first_in}
+use Rattle.std.specs.Prelude.{ℕ, ◌+◌, Bool, true, false, not, cond, ◌&&◌, ◌||◌, ltb, leb, Result, Ok, Err, is_ok, is_none, take}
+use Rattle.std.specs.List.{list_any}
+use Rattle.laws.specs.Loops.{first_in}
 use Rattle.geometry.specs.Geometry.{dir_of}
 use Rattle.geometry.specs.declared.Dir.{Dir}
-use Rattle.geometry.specs.declared.MaybeDir.{MaybeDir}
-use Rattle.geometry.specs.declared.MaybeDir.TheVariants.{SomeDir, NoDir}
 use Rattle.bodies.specs.Description.{body_at}
 use Rattle.bodies.specs.declared.Body.{Body}
 use Rattle.bodies.specs.declared.Joint.{Joint}
@@ -12,8 +11,6 @@ use Rattle.bodies.specs.declared.Joint.TheVariants.{Ground, Revolute, Prismatic}
 use Rattle.bodies.specs.declared.Bodies.{Bodies}
 use Rattle.bodies.specs.declared.Problem.{Problem}
 use Rattle.bodies.specs.declared.Problem.TheVariants.{TextTooLong, LineNotRead, LimitPassed, BodyNotPlaced, NoDirection, PartOnNoSuchBody, OutlineNotClosed, RangeNotDrawn, SideOnTwoBodies, PairOnOneBody, PoseNotMatching, NoSuchThing, TooFewRows}
-use Rattle.bodies.specs.declared.Checked.{Checked}
-use Rattle.bodies.specs.declared.Checked.TheVariants.{Accepted, Refused}
 
 -- ---- document 01's number and place of each refusal
 abbrev pub number_of : Problem → ℕ
@@ -48,22 +45,22 @@ place_of NoSuchThing = 0
 place_of TooFewRows = 0
 
 -- ---- the first refusal that applies
-abbrev pub is_accepted : Checked → Bool
-is_accepted Accepted = true
-is_accepted (Refused p) = false
+-- accepted, or refused
+abbrev pub Checked : Type 0
+Checked = Result (Unit {0}) Problem
 
 -- where the first check accepts, the next one is asked
 abbrev pub and_then : Checked → Checked → Checked
-and_then Accepted next = next
-and_then (Refused p) next = Refused p
+and_then (Ok tt) next = next
+and_then (Err p) next = Err p
 
 -- a test that refuses
 abbrev pub refused_if : Bool → Problem → Checked
-refused_if b p = cond b (Refused p) Accepted
+refused_if b p = cond b (Err p) (Ok tt)
 
 -- the first of the k checks from j on that refuses
 abbrev pub first_refused : (ℕ → Checked) → ℕ → ℕ → Checked
-first_refused f k j = first_in is_accepted Accepted f k j
+first_refused f k j = first_in is_ok (Ok tt) f k j
 
 -- ---- 4: a body's parent is not below it, or its coordinate is not below the count
 abbrev pub coord_below : ℕ → Joint → Bool
@@ -79,12 +76,8 @@ unfoldable pub bodies_checked : Bodies → Checked
 bodies_checked b = first_refused (λ i. refused_if (misplaced b.coords (body_at b i) i) (BodyNotPlaced (i + 1))) b.count 0
 
 -- ---- 5: a slide's axis has no `Dir::new`
-abbrev pub has_none : MaybeDir → Bool
-has_none (SomeDir d) = false
-has_none NoDir = true
-
 abbrev pub dir_lacks : Dir → Bool
-dir_lacks d = has_none (dir_of d.x d.y)
+dir_lacks d = is_none (dir_of d.x d.y)
 
 abbrev pub joint_lacks : Joint → Bool
 joint_lacks Ground = false
@@ -92,7 +85,7 @@ joint_lacks (Revolute p c) = false
 joint_lacks (Prismatic o a c) = dir_lacks a
 
 unfoldable pub bodies_lack : Bodies → Bool
-bodies_lack b = any_in (λ i. joint_lacks (body_at b i).joint) b.count 0
+bodies_lack b = list_any (λ c. joint_lacks c.joint) (take b.count b.body)
 
 -- 3, 4 and 5 of the bodies by themselves
 unfoldable pub bodies_stand : Bodies → Checked

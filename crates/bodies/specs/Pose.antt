@@ -1,5 +1,5 @@
 -- mechanism/pose.rs, operation by operation; a pose takes for each coordinate its value, sine and cosine. Definitions only.
-use Rattle.std.specs.Prelude.{ℕ, zero, suc, ◌+◌, ◌<◌, ◌≤◌, ◌≡◌, Bool, true, cond, ◌&&◌, ◌||◌, not, List, [], ◌∷◌, ◌++◌, ltb, leb, eqb, length, get_or, set, replicate, Float}
+use Rattle.std.specs.Prelude.{ℕ, zero, suc, ◌+◌, ◌<◌, ◌≤◌, ◌≡◌, Bool, true, cond, ◌&&◌, ◌||◌, not, List, [], ◌∷◌, ◌++◌, ltb, leb, eqb, length, get_or, set, replicate, Float, Result, Ok, Err}
 use Rattle.std.proofs.lemmas.List.Edits.{sets}
 use Rattle.std.specs.Float.{nan}
 use Rattle.std.specs.Float.Ieee.{neg, eq}
@@ -9,29 +9,18 @@ use Rattle.ieee.specs.Operators.{◌⊕◌, ◌⊖◌, ◌⊗◌}
 use Rattle.geometry.specs.Geometry.{vector_of}
 use Rattle.geometry.specs.declared.Point.{Point}
 use Rattle.bodies.specs.Description.{no_point, no_body, body_at}
-use Rattle.bodies.specs.Check.{coord_below, bodies_stand, and_then, refused_if}
+use Rattle.bodies.specs.Check.{Checked, coord_below, bodies_stand, and_then, refused_if}
 use Rattle.bodies.specs.declared.Body.{Body}
 use Rattle.bodies.specs.declared.Joint.{Joint}
 use Rattle.bodies.specs.declared.Joint.TheVariants.{Ground, Revolute, Prismatic}
 use Rattle.bodies.specs.declared.Bodies.{Bodies}
 use Rattle.bodies.specs.declared.Problem.{Problem}
 use Rattle.bodies.specs.declared.Problem.TheVariants.{NoSuchThing, PoseNotMatching}
-use Rattle.bodies.specs.declared.Checked.{Checked}
-use Rattle.bodies.specs.declared.Checked.TheVariants.{Accepted, Refused}
 use Rattle.bodies.specs.declared.pose.Placement.{Placement}
 use Rattle.bodies.specs.declared.pose.Pose.{Pose}
-use Rattle.bodies.specs.declared.pose.Posed.{Posed}
 use Rattle.bodies.specs.declared.pose.MaterialPoint.{MaterialPoint}
 use Rattle.bodies.specs.declared.pose.Column.{Column}
 use Rattle.bodies.specs.declared.pose.Columns.{Columns}
-use Rattle.bodies.specs.declared.pose.MaybeColumn.{MaybeColumn}
-use Rattle.bodies.specs.declared.pose.MaybeColumn.TheVariants.{SomeColumn, NoColumn}
-use Rattle.bodies.specs.declared.pose.PointAnswer.{PointAnswer}
-use Rattle.bodies.specs.declared.pose.PointAnswer.TheVariants.{IsPoint, NoPoint}
-use Rattle.bodies.specs.declared.pose.PlacementAnswer.{PlacementAnswer}
-use Rattle.bodies.specs.declared.pose.PlacementAnswer.TheVariants.{IsPlacement, NoPlacement}
-use Rattle.bodies.specs.declared.pose.BodyAnswer.{BodyAnswer}
-use Rattle.bodies.specs.declared.pose.BodyAnswer.TheVariants.{IsBody, NoBody}
 
 -- ---- Placement
 abbrev pub world : Placement
@@ -98,13 +87,13 @@ pub record Rooted (b : Bodies) (coords : ℕ) : Type 0 where
 abbrev pub bodies_posed : Bodies → List (List Float) → Checked
 bodies_posed b q = and_then (bodies_stand b) (refused_if (not (eqb (length q) b.coords)) PoseNotMatching)
 
--- a refusal comes with no placements
-abbrev pub no_pose : Problem → Posed
-no_pose p = record { checked = Refused p; pose = record { count = 0; placement = replicate 16 world } }
+-- every body placed
+abbrev pub bodies_placed : Bodies → List (List Float) → Pose
+bodies_placed b q = record { count = b.count + 1; placement = placements_of b q }
 
-abbrev pub posed_of : Checked → Bodies → List (List Float) → Posed
-posed_of Accepted b q = record { checked = Accepted; pose = record { count = b.count + 1; placement = placements_of b q } }
-posed_of (Refused p) b q = no_pose p
+abbrev pub posed_of : Checked → Bodies → List (List Float) → Result Pose Problem
+posed_of (Ok tt) b q = Ok (bodies_placed b q)
+posed_of (Err p) b q = Err p
 
 -- ---- the walk up the parents (for_each_column_at): the columns of a point p, from its body to the ground
 -- how fast p moves with the coordinate of a joint, whose body stands at `placed`
@@ -112,11 +101,6 @@ abbrev pub column_of : Point → Placement → Joint → List Column
 column_of p placed Ground = []
 column_of p placed (Revolute pivot c) = record { coord = c; column = record { x = neg (p.y ⊖ placed.origin.y); y = p.x ⊖ placed.origin.x } } ∷ []
 column_of p placed (Prismatic origin axis c) = record { coord = c; column = rotate_of placed (vector_of axis) } ∷ []
-
--- what the code answers for one joint
-abbrev pub column_in : MaybeColumn → List Column
-column_in (SomeColumn k) = k ∷ []
-column_in NoColumn = []
 
 -- The columns from a body up to the ground, in at most `steps` steps; a number above fifteen names no body. Where each parent is below its body, fifteen steps reach the ground from any body.
 unfoldable pub columns_up : Bodies → Pose → Point → ℕ → ℕ → List Column
@@ -150,11 +134,11 @@ no_such_body q body = ltb 16 q.count || leb q.count body
 abbrev pub placement_at : Pose → ℕ → Placement
 placement_at q body = get_or q.placement body no_placement
 
-unfoldable pub placement_of : Pose → ℕ → PlacementAnswer
-placement_of q body = cond (no_such_body q body) (NoPlacement NoSuchThing) (IsPlacement (placement_at q body))
+unfoldable pub placement_of : Pose → ℕ → Result Placement Problem
+placement_of q body = cond (no_such_body q body) (Err NoSuchThing) (Ok (placement_at q body))
 
-unfoldable pub point_of : Pose → MaterialPoint → PointAnswer
-point_of q p = cond (no_such_body q p.body) (NoPoint NoSuchThing) (IsPoint (world_of (placement_at q p.body) p.at))
+unfoldable pub point_of : Pose → MaterialPoint → Result Point Problem
+point_of q p = cond (no_such_body q p.body) (Err NoSuchThing) (Ok (world_of (placement_at q p.body) p.at))
 
 -- one placement a body, the ground's among them
 abbrev pub pose_fits : Bodies → Pose → Bool
@@ -164,15 +148,15 @@ pose_fits b q = eqb q.count (b.count + 1)
 abbrev pub column_for : Bodies → Pose → MaterialPoint → ℕ → Point
 column_for b q p c = last_column c no_move (columns_of b q (world_of (placement_at q p.body) p.at) p.body)
 
-abbrev pub jacobian_of : Checked → Bodies → Pose → MaterialPoint → ℕ → PointAnswer
-jacobian_of (Refused x) b q p c = NoPoint x
-jacobian_of Accepted b q p c = IsPoint (column_for b q p c)
+abbrev pub jacobian_of : Checked → Bodies → Pose → MaterialPoint → ℕ → Result Point Problem
+jacobian_of (Err x) b q p c = Err x
+jacobian_of (Ok tt) b q p c = Ok (column_for b q p c)
 
 -- Mechanism::body; the ground is body 0
 abbrev pub body_numbered : Bodies → ℕ → Body
 body_numbered b zero = no_body
 body_numbered b (suc i) = body_at b i
 
-abbrev pub body_answer : Checked → Bodies → ℕ → BodyAnswer
-body_answer (Refused x) b n = NoBody x
-body_answer Accepted b n = IsBody (body_numbered b n)
+abbrev pub body_answer : Checked → Bodies → ℕ → Result Body Problem
+body_answer (Err x) b n = Err x
+body_answer (Ok tt) b n = Ok (body_numbered b n)

@@ -2,8 +2,9 @@
 ghost use Rattle.std.specs.Prelude.{◌≡◌, ◌≤◌};
 ghost use Rattle.bodies.specs.Check.{number_of, place_of, coord_below, misplaced, bodies_checked, dir_lacks, joint_lacks, bodies_lack, bodies_stand};
 
-use super::{Bodies, Body, Checked, Joint, Problem};
-use geometry::{Dir, MaybeDir, Point};
+use super::{Bodies, Body, Joint, Problem};
+use geometry::Dir;
+use std::fmt;
 
 impl Problem {
     // Document 01's number of the refusal.
@@ -12,15 +13,15 @@ impl Problem {
     {
         match self {
             Problem::TextTooLong => 1,
-            Problem::LineNotRead { line: _ } => 2,
+            Problem::LineNotRead { .. } => 2,
             Problem::LimitPassed => 3,
-            Problem::BodyNotPlaced { body: _ } => 4,
+            Problem::BodyNotPlaced { .. } => 4,
             Problem::NoDirection => 5,
-            Problem::PartOnNoSuchBody { part: _ } => 6,
-            Problem::OutlineNotClosed { part: _ } => 7,
-            Problem::RangeNotDrawn { pair: _ } => 8,
-            Problem::SideOnTwoBodies { pair: _ } => 9,
-            Problem::PairOnOneBody { pair: _ } => 10,
+            Problem::PartOnNoSuchBody { .. } => 6,
+            Problem::OutlineNotClosed { .. } => 7,
+            Problem::RangeNotDrawn { .. } => 8,
+            Problem::SideOnTwoBodies { .. } => 9,
+            Problem::PairOnOneBody { .. } => 10,
             Problem::PoseNotMatching => 11,
             Problem::NoSuchThing => 12,
             Problem::TooFewRows => 13,
@@ -32,20 +33,30 @@ impl Problem {
         ensures { result ≡ place_of self }
     {
         match self {
-            Problem::TextTooLong => 0,
             Problem::LineNotRead { line } => line,
-            Problem::LimitPassed => 0,
             Problem::BodyNotPlaced { body } => body,
-            Problem::NoDirection => 0,
-            Problem::PartOnNoSuchBody { part } => part,
-            Problem::OutlineNotClosed { part } => part,
-            Problem::RangeNotDrawn { pair } => pair,
-            Problem::SideOnTwoBodies { pair } => pair,
-            Problem::PairOnOneBody { pair } => pair,
-            Problem::PoseNotMatching => 0,
-            Problem::NoSuchThing => 0,
-            Problem::TooFewRows => 0,
+            Problem::PartOnNoSuchBody { part } | Problem::OutlineNotClosed { part } => part,
+            Problem::RangeNotDrawn { pair }
+            | Problem::SideOnTwoBodies { pair }
+            | Problem::PairOnOneBody { pair } => pair,
+            Problem::TextTooLong
+            | Problem::LimitPassed
+            | Problem::NoDirection
+            | Problem::PoseNotMatching
+            | Problem::NoSuchThing
+            | Problem::TooFewRows => 0,
         }
+    }
+}
+
+// As the programs print it.
+impl fmt::Display for Problem {
+    ghost use Rattle.std.specs.Prelude.{Some, ◌++◌, codes, decimal};
+
+    ghost output = { λ p. Some (codes "X," ++ (decimal (number_of p) ++ (codes "," ++ decimal (place_of p)))) };
+
+    fn fmt<W: fmt::Write>(&self, f: &mut fmt::Formatter<W>) -> fmt::Result {
+        write!(f, "X,{},{}", self.number(), self.place())
     }
 }
 
@@ -56,12 +67,7 @@ fn coord_below(n: usize, j: Joint) -> bool
 {
     match j {
         Joint::Ground => true,
-        Joint::Revolute { pivot: _, coord } => coord < n,
-        Joint::Prismatic {
-            origin: _,
-            axis: _,
-            coord,
-        } => coord < n,
+        Joint::Revolute { coord, .. } | Joint::Prismatic { coord, .. } => coord < n,
     }
 }
 
@@ -69,26 +75,20 @@ fn coord_below(n: usize, j: Joint) -> bool
 fn is_misplaced(coords: usize, b: Body, i: usize) -> bool
     ensures { result ≡ misplaced coords b i }
 {
-    let j = b.joint;
-    !((b.parent <= i) & coord_below(coords, j))
+    b.parent > i || !coord_below(coords, b.joint)
 }
 
-fn bodies_checked(b: Bodies) -> Checked
+#[tactic(auto, unfolding(crate::specs::Check::bodies_checked), using(crate::proofs::Turns::first_turns))]
+fn bodies_checked(b: Bodies) -> Result<(), Problem>
     requires { b.count ≤ 15 }
     ensures { result ≡ bodies_checked b }
 {
-    let n = b.count;
-    let coords = b.coords;
-    let mut i: usize = 0;
-    while i < n {
-        let k = i;
-        let c = b.body[k];
-        i += 1;
-        if is_misplaced(coords, c, k) {
-            return Checked::Refused(Problem::BodyNotPlaced { body: i });
+    for i in 0..b.count {
+        if is_misplaced(b.coords, b.body[i], i) {
+            return Err(Problem::BodyNotPlaced { body: i + 1 });
         }
     }
-    Checked::Accepted
+    Ok(())
 }
 
 // ---- 5: a slide's axis has no `Dir::new`
@@ -97,59 +97,37 @@ fn bodies_checked(b: Bodies) -> Checked
 pub fn dir_lacks(d: Dir) -> bool
     ensures { result ≡ dir_lacks d }
 {
-    let found = Dir::new(d.x, d.y);
-    match found {
-        MaybeDir::SomeDir(_) => false,
-        MaybeDir::NoDir => true,
-    }
+    Dir::new(d.x, d.y).is_none()
 }
 
 fn joint_lacks(j: Joint) -> bool
     ensures { result ≡ joint_lacks j }
 {
     match j {
-        Joint::Ground => false,
-        Joint::Revolute { pivot: _, coord: _ } => false,
-        Joint::Prismatic {
-            origin: _,
-            axis,
-            coord: _,
-        } => dir_lacks(axis),
+        Joint::Ground | Joint::Revolute { .. } => false,
+        Joint::Prismatic { axis, .. } => dir_lacks(axis),
     }
 }
 
+#[tactic(auto, unfolding(crate::specs::Check::bodies_lack))]
 fn bodies_lack(b: Bodies) -> bool
     requires { b.count ≤ 15 }
     ensures { result ≡ bodies_lack b }
 {
-    let n = b.count;
-    let mut i: usize = 0;
-    while i < n {
-        let c = b.body[i];
-        let j = c.joint;
-        i += 1;
-        if joint_lacks(j) {
-            return true;
-        }
-    }
-    false
+    b.body[..b.count].iter().any(|x| joint_lacks(x.joint))
 }
 
 // 3, 4 and 5 of the bodies by themselves.
-pub fn bodies_stand(b: Bodies) -> Checked
+#[tactic(auto, unfolding(crate::specs::Check::bodies_stand))]
+pub fn bodies_stand(b: Bodies) -> Result<(), Problem>
     ensures { result ≡ bodies_stand b }
 {
-    if (15 < b.count) | (16 < b.coords) {
-        return Checked::Refused(Problem::LimitPassed);
+    if b.count > 15 || b.coords > 16 {
+        return Err(Problem::LimitPassed);
     }
-    let placed = bodies_checked(b);
-    match placed {
-        Checked::Refused(p) => Checked::Refused(p),
-        Checked::Accepted => {
-            if bodies_lack(b) {
-                return Checked::Refused(Problem::NoDirection);
-            }
-            Checked::Accepted
-        }
+    bodies_checked(b)?;
+    if bodies_lack(b) {
+        return Err(Problem::NoDirection);
     }
+    Ok(())
 }

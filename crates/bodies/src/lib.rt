@@ -56,9 +56,3 @@ pub enum Problem {
     NoSuchThing,
     TooFewRows,
 }
-
-#[derive(Clone, Copy)]
-pub enum Checked {
-    Accepted,
-    Refused(Problem),
-}

@@ -1,10 +1,10 @@
 // Poses, and how fast material points move with each coordinate (mechanism/pose.rs).
-ghost use Rattle.std.specs.Prelude.{◌≡◌, true, ◌+◌, ◌≤◌, ◌<◌, length, take};
+ghost use Rattle.std.specs.Prelude.{◌≡◌, true, ◌+◌, ◌≤◌, ◌<◌, length, take, option_to_list};
 ghost use Rattle.bodies.specs.Check.{coord_below};
-ghost use Rattle.bodies.specs.Pose.{rotate_of, world_of, is_world, hinged, slid, placed_of, placements_of, bodies_posed, posed_of, no_pose, column_of, column_in, columns_of, columns_in, no_move, last_column, placement_at, placement_of, pose_fits, point_of, column_for, Rooted};
+ghost use Rattle.bodies.specs.Pose.{rotate_of, world_of, is_world, hinged, slid, placed_of, placements_of, bodies_posed, posed_of, column_of, columns_of, columns_in, no_move, last_column, placement_at, placement_of, pose_fits, point_of, column_for, Rooted};
 
 use super::check::bodies_stand;
-use super::{Bodies, Body, Checked, Joint, Problem};
+use super::{Bodies, Joint, Problem};
 use geometry::Point;
 
 // What is lent for one coordinate: its value, and the sine and cosine of it.
@@ -55,11 +55,10 @@ impl Placement {
     pub fn world(self, p: Point) -> Point
         ensures { result ≡ world_of self p }
     {
-        let o = self.origin;
         let r = self.rotate(p);
         Point {
-            x: o.x + r.x,
-            y: o.y + r.y,
+            x: self.origin.x + r.x,
+            y: self.origin.y + r.y,
         }
     }
 
@@ -67,8 +66,7 @@ impl Placement {
     pub fn is_world(self) -> bool
         ensures { result ≡ is_world self }
     {
-        let o = self.origin;
-        ((o.x == 0.0) & (o.y == 0.0)) & ((self.cos == 1.0) & (self.sin == 0.0))
+        ((self.origin.x == 0.0) & (self.origin.y == 0.0)) & ((self.cos == 1.0) & (self.sin == 0.0))
     }
 }
 
@@ -77,13 +75,6 @@ impl Placement {
 pub struct Pose {
     pub count: usize,
     pub placement: [Placement; 16],
-}
-
-// A pose, or the first refusal that applies and no placements.
-#[derive(Clone, Copy)]
-pub struct Posed {
-    pub checked: Checked,
-    pub pose: Pose,
 }
 
 // A body on a pin: its parent's placement, the pin in the parent's frame, and the sine and cosine of the angle.
@@ -135,25 +126,19 @@ fn place(q: &[Lent], parent: Placement, j: Joint) -> Placement
 }
 
 // Places every body, parent before child.
+#[tactic(auto, unfolding(crate::specs::Pose::placements_of), using(crate::proofs::Turns::fold_turns))]
 fn placements(b: Bodies, q: &[Lent]) -> Pose
     requires { Rooted b (length q.now) }
     ensures { (result.count ≡ b.count + 1) × (result.placement ≡ placements_of b q.now) }
 {
-    let n = b.count;
-    let ground = Placement::WORLD;
-    let mut placed = [ground; 16];
-    let mut i: usize = 0;
-    while i < n {
+    let mut placement = [Placement::WORLD; 16];
+    for i in 0..b.count {
         let c = b.body[i];
-        let parent = c.parent;
-        let j = c.joint;
-        let p = placed[parent];
-        placed[i + 1] = place(q, p, j);
-        i += 1;
+        placement[i + 1] = place(q, placement[c.parent], c.joint);
     }
     Pose {
-        count: n + 1,
-        placement: placed,
+        count: b.count + 1,
+        placement,
     }
 }
 
@@ -171,33 +156,20 @@ pub struct Columns {
     pub column: [Column; 15],
 }
 
-#[derive(Clone, Copy)]
-enum MaybeColumn {
-    SomeColumn(Column),
-    NoColumn,
-}
-
 // The column that a joint gives the point p of the world, its body standing at `placed`.
-fn joint_column(p: Point, placed: Placement, j: Joint) -> MaybeColumn
-    ensures { column_in result ≡ column_of p placed j }
+fn joint_column(p: Point, placed: Placement, j: Joint) -> Option<Column>
+    ensures { option_to_list result ≡ column_of p placed j }
 {
     match j {
-        Joint::Ground => MaybeColumn::NoColumn,
-        Joint::Revolute { pivot: _, coord } => {
-            let o = placed.origin;
-            MaybeColumn::SomeColumn(Column {
-                coord,
-                column: Point {
-                    x: -(p.y - o.y),
-                    y: p.x - o.x,
-                },
-            })
-        }
-        Joint::Prismatic {
-            origin: _,
-            axis,
+        Joint::Ground => None,
+        Joint::Revolute { coord, .. } => Some(Column {
             coord,
-        } => MaybeColumn::SomeColumn(Column {
+            column: Point {
+                x: -(p.y - placed.origin.y),
+                y: p.x - placed.origin.x,
+            },
+        }),
+        Joint::Prismatic { axis, coord, .. } => Some(Column {
             coord,
             column: placed.rotate(axis.vector()),
         }),
@@ -215,27 +187,16 @@ pub fn columns_at(b: Bodies, q: Pose, body: usize, p: Point) -> Columns
     let mut out = [none; 15];
     let mut n: usize = 0;
     let mut at = body;
-    let mut steps: usize = 15;
-    while steps > 0 {
-        steps -= 1;
-        if (at == 0) | (15 < at) {
-            return Columns {
-                count: n,
-                column: out,
-            };
+    for _ in 0..15usize {
+        if at == 0 || at > 15 {
+            break;
         }
-        let placed = q.placement[at];
         let c = b.body[at - 1];
-        let j = c.joint;
-        let found = joint_column(p, placed, j);
-        at = c.parent;
-        match found {
-            MaybeColumn::SomeColumn(k) => {
-                out[n] = k;
-                n += 1;
-            }
-            MaybeColumn::NoColumn => {}
+        if let Some(k) = joint_column(p, q.placement[at], c.joint) {
+            out[n] = k;
+            n += 1;
         }
+        at = c.parent;
     }
     Columns {
         count: n,
@@ -243,52 +204,16 @@ pub fn columns_at(b: Bodies, q: Pose, body: usize, p: Point) -> Columns
     }
 }
 
-// A point, or why there is none.
-#[derive(Clone, Copy)]
-pub enum PointAnswer {
-    IsPoint(Point),
-    NoPoint(Problem),
-}
-
-#[derive(Clone, Copy)]
-pub enum PlacementAnswer {
-    IsPlacement(Placement),
-    NoPlacement(Problem),
-}
-
-#[derive(Clone, Copy)]
-pub enum BodyAnswer {
-    IsBody(Body),
-    NoBody(Problem),
-}
-
-// A refusal, with no placements.
-pub fn no_pose(p: Problem) -> Posed
-    ensures { result ≡ no_pose p }
-{
-    let ground = Placement::WORLD;
-    Posed {
-        checked: Checked::Refused(p),
-        pose: Pose {
-            count: 0,
-            placement: [ground; 16],
-        },
-    }
-}
-
 // The last column of a coordinate, which is the one nearest the ground.
+#[tactic(auto, unfolding(crate::specs::Pose::last_column))]
 fn last_column(k: Columns, coord: usize) -> Point
     requires { (k.count ≤ 15) × (k.count ≤ length k.column) }
     ensures { result ≡ last_column coord no_move (take k.count k.column) }
 {
-    let n = k.count;
     let mut found = Point { x: 0.0, y: 0.0 };
-    let mut i: usize = 0;
-    while i < n {
-        let c = k.column[i];
-        i += 1;
-        if c.coord == coord {
-            found = c.column;
+    for i in 0..k.count {
+        if k.column[i].coord == coord {
+            found = k.column[i].column;
         }
     }
     found
@@ -301,11 +226,13 @@ pub fn placement_at(q: Pose, body: usize) -> Placement
     if body < 16 {
         return q.placement[body];
     }
-    let nan = 0.0 / 0.0;
     Placement {
-        origin: Point { x: nan, y: nan },
-        cos: nan,
-        sin: nan,
+        origin: Point {
+            x: f64::NAN,
+            y: f64::NAN,
+        },
+        cos: f64::NAN,
+        sin: f64::NAN,
     }
 }
 
@@ -322,52 +249,42 @@ impl Pose {
     pub fn fits(self, b: Bodies) -> bool
         ensures { result ≡ pose_fits b self }
     {
-        if self.count == 0 {
-            return false;
-        }
-        self.count - 1 == b.count
+        self.count.checked_sub(1) == Some(b.count)
     }
 
     // Where a body's frame stands.
-    pub fn placement(self, body: usize) -> PlacementAnswer
+    #[tactic(auto, unfolding(crate::specs::Pose::placement_of))]
+    pub fn placement(self, body: usize) -> Result<Placement, Problem>
         ensures { result ≡ placement_of self body }
     {
-        if (16 < self.count) | (self.count <= body) {
-            return PlacementAnswer::NoPlacement(Problem::NoSuchThing);
+        if self.count > 16 || self.count <= body {
+            return Err(Problem::NoSuchThing);
         }
-        PlacementAnswer::IsPlacement(placement_at(self, body))
+        Ok(placement_at(self, body))
     }
 
     // Where a material point is, in the world.
-    pub fn world(self, p: MaterialPoint) -> PointAnswer
+    #[tactic(auto, unfolding(crate::specs::Pose::point_of))]
+    pub fn world(self, p: MaterialPoint) -> Result<Point, Problem>
         ensures { result ≡ point_of self p }
     {
-        if (16 < self.count) | (self.count <= p.body) {
-            return PointAnswer::NoPoint(Problem::NoSuchThing);
+        if self.count > 16 || self.count <= p.body {
+            return Err(Problem::NoSuchThing);
         }
-        PointAnswer::IsPoint(placement_at(self, p.body).world(p.at))
+        Ok(placement_at(self, p.body).world(p.at))
     }
 }
 
 impl Bodies {
     // Places the bodies of a description by themselves.
-    pub fn pose(self, q: &[Lent]) -> Posed
+    #[tactic(auto, using(crate::proofs::Checks::rooted_for))]
+    pub fn pose(self, q: &[Lent]) -> Result<Pose, Problem>
         ensures { result ≡ posed_of (bodies_posed self q.now) self q.now }
     {
-        let c = bodies_stand(self);
-        match c {
-            Checked::Refused(p) => no_pose(p),
-            Checked::Accepted => {
-                if q.len() == self.coords {
-                    let pose = placements(self, q);
-                    Posed {
-                        checked: Checked::Accepted,
-                        pose,
-                    }
-                } else {
-                    no_pose(Problem::PoseNotMatching)
-                }
-            }
+        bodies_stand(self)?;
+        if q.len() != self.coords {
+            return Err(Problem::PoseNotMatching);
         }
+        Ok(placements(self, q))
     }
 }

@@ -2,12 +2,11 @@
 use mathlib.Core.Path.{◌≡◌, refl, sym, ap, ap₂}
 use mathlib.Core.Bool.{Bool, true, false, false≢true, not, ◌||◌, cond}
 use mathlib.Core.List.{List, [], ◌∷◌, ◌++◌}
-use Rattle.laws.specs.Lists.{flat, any}
+use Rattle.std.specs.List.{list_any}
+use Rattle.laws.specs.Lists.{flat}
 use Rattle.laws.proofs.Choice.{neither}
 use Rattle.geometry.specs.Signed.{disc_on_face, center_on_face, reversed_of, on_a, on_b}
 use Rattle.geometry.specs.declared.Point.{Point}
-use Rattle.geometry.specs.declared.signed.MaybeProximity.{MaybeProximity}
-use Rattle.geometry.specs.declared.signed.MaybeProximity.TheVariants.{SomeProximity, NoProximity}
 use Rattle.geometry.specs.declared.signed.Proximity.{Proximity}
 use Rattle.mechanism.specs.declared.features.Piece.{Piece}
 use Rattle.material.specs.Material.{Material}
@@ -17,13 +16,14 @@ use Rattle.sides.specs.declared.SideFeatures.{SideFeatures}
 use Rattle.proximities.specs.declared.Candidate.{Candidate}
 use Rattle.proximities.specs.Proximities.{reading, kept_if, exchanged, is_deep, real_of, center_real, found_deep, read_ab, read_ba, read_discs, read_center, each}
 use Rattle.candidates.specs.Candidates.{disc_deep, any_deep, center_deep, faces_in, discs_in, candidates_in, placed_candidates}
+use Rattle.std.proofs.Common.{Option, Some, None}
 
 -- two readings that agree wherever none passes
-flat-same : {A : Type 0} (p : A → Bool) (f g : A → List Candidate) → ((x : A) → p x ≡ false → f x ≡ g x) → (l : List A) → any p l ≡ false → flat f l ≡ flat g l
-unfolding flat any
+flat-same : {A : Type 0} (p : A → Bool) (f g : A → List Candidate) → ((x : A) → p x ≡ false → f x ≡ g x) → (l : List A) → list_any p l ≡ false → flat f l ≡ flat g l
+unfolding flat
 flat-same p f g h [] e = refl
 flat-same {A} p f g h (x ∷ l) e =
-    let n = neither (p x) (any p l) e in
+    let n = neither (p x) (list_any p l) e in
     ap₂ (λ (a b : List Candidate). a ++ b) (h x n.0) (flat-same p f g h l n.1)
 
 -- a reading that is not deep counts, whatever the material
@@ -32,15 +32,15 @@ counts true x y e = absurd (false≢true (sym e))
 counts false x y e = refl
 
 module _ (p q : Proximity → Bool) (same : (x : Proximity) → is_deep x.gap ≡ false → p x ≡ q x) where
-  kept_same : (found : MaybeProximity) → found_deep found ≡ false → kept_if p found ≡ kept_if q found
-  kept_same NoProximity e = refl
-  kept_same (SomeProximity x) e = ap (λ (b : Bool). cond b (SomeProximity x) NoProximity) (same x e)
+  kept_same : (found : Option Proximity) → found_deep found ≡ false → kept_if p found ≡ kept_if q found
+  kept_same None e = refl
+  kept_same (Some x) e = ap (λ (b : Bool). cond b (Some x) None) (same x e)
 
   -- turned round, a reading keeps its gap
-  kept-exchanged : (found : MaybeProximity) → found_deep found ≡ false → kept_if p (exchanged found) ≡ kept_if q (exchanged found)
+  kept-exchanged : (found : Option Proximity) → found_deep found ≡ false → kept_if p (exchanged found) ≡ kept_if q (exchanged found)
   unfolding reversed_of
-  kept-exchanged NoProximity e = refl
-  kept-exchanged (SomeProximity x) e = ap (λ (b : Bool). cond b (SomeProximity (reversed_of x)) NoProximity) (same (reversed_of x) e)
+  kept-exchanged None e = refl
+  kept-exchanged (Some x) e = ap (λ (b : Bool). cond b (Some (reversed_of x)) None) (same (reversed_of x) e)
 
 module _ (m m' : Material) where
   ab_same : (d : PlacedDisc) (f : PlacedFace) → found_deep (disc_on_face d.disc f.face) ≡ false → read_ab m d f ≡ read_ab m' d f

@@ -4,16 +4,16 @@ use native.Mathlib.Omega.{arith}
 use native.Mathlib.Numerals.{add-one}
 use native.Mathlib.Nat.{add_assoc}
 use mathlib.Core.Path.{◌≡◌, sym, ap, ap₂, subst, ◌∙◌}
-use mathlib.Core.Bool.{Bool, true, false, ◌&&◌, ◌||◌}
-use mathlib.Core.List.{List, [], ◌∷◌, map}
+use mathlib.Core.Bool.{true, false, ◌&&◌}
+use mathlib.Core.List.{List, ◌∷◌, map}
 use lib.Dec.{leb}
 use lib.Ieee.{nan}
-use lib.ListN.{length, take, drop, get_or, drop_of_length-le}
+use lib.ListN.{length, take, drop, get_or}
 use lib.Seq.{drop-cons, get_or-take, length-take-le}
 use mir.Val.{Val}
 use denote.Laws.{Is}
 use borrow.Author.Tests.{leb-true}
-use Rattle.laws.specs.Lists.{flat, any}
+use Rattle.laws.specs.Lists.{flat}
 use Rattle.laws.proofs.Choice.{both, cond_yes}
 use Rattle.geometry.specs.declared.Point.{Point}
 use Rattle.mechanism.specs.Check.{FewParts, pair_drawn}
@@ -63,29 +63,8 @@ module _ {A : Type 0} (l : List A) (n i : ℕ) (long : n ≤ length l) where
       let k : length (take n l) ≡ n = length-take-le n l long in
       drop-cons (take n l) i d (omega arith) ∙ ap (λ (j : ℕ). get_or (take n l) i d ∷ drop j (take n l)) (sym (add-one i)) ∙ ap (λ (x : A). x ∷ drop (i + 1) (take n l)) (get_or-take n l i d h)
 
-  none_left : n ≤ i → drop i (take n l) ≡ []
-  none_left h =
-      let k : length (take n l) ≡ n = length-take-le n l long in
-      drop_of_length-le (take n l) (let g : length (take n l) ≤ i = omega arith in g)
-
   pub map_next : {B : Type 0} (g : A → B) (d : A) → i < n → map g (drop i (take n l)) ≡ g (get_or l i d) ∷ map g (drop (i + 1) (take n l))
   map_next g d h = ap (map g) (next_of d h)
-
-  pub map-left : {B : Type 0} (g : A → B) → n ≤ i → map g (drop i (take n l)) ≡ []
-  map-left g h = ap (map g) (none_left h)
-
-  -- whether one of those left passes: element i does, it does not, none is left
-  pub left-yes : (p : A → Bool) (d : A) → i < n → p (get_or l i d) ≡ true → any p (drop i (take n l)) ≡ true
-  unfolding any
-  left-yes p d h e = ap (any p) (next_of d h) ∙ ap (λ (b : Bool). b || any p (drop (i + 1) (take n l))) e
-
-  pub left-no : (p : A → Bool) (d : A) → i < n → p (get_or l i d) ≡ false → any p (drop i (take n l)) ≡ any p (drop (i + 1) (take n l))
-  unfolding any
-  left-no p d h e = ap (any p) (next_of d h) ∙ ap (λ (b : Bool). b || any p (drop (i + 1) (take n l))) e
-
-  pub left-none : (p : A → Bool) → n ≤ i → any p (drop i (take n l)) ≡ false
-  unfolding any
-  left-none p h = ap (any p) (none_left h)
 
 -- ---- the features of a pair that is drawn
 drawn-few : (ps : Parts) (o : Outlines) (p : ContactPair) → pair_drawn ps p ≡ true → FewParts ps × FewOnSide (pair_features ps o p).a × FewOnSide (pair_features ps o p).b

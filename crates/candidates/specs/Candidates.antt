@@ -1,7 +1,8 @@
 -- The candidates of a pair at a pose (contact/rows.rs: `read_pair`), in the Rust's order, before hiding and margin.
 -- Definitions only.
 use Rattle.std.specs.Prelude.{ℕ, ◌+◌, ◌*◌, ◌≤◌, Bool, true, false, ◌&&◌, List, [], ◌++◌, map, leb, take}
-use Rattle.laws.specs.Lists.{flat, any}
+use Rattle.std.specs.List.{list_any}
+use Rattle.laws.specs.Lists.{flat}
 use Rattle.geometry.specs.Signed.{disc_on_face, center_on_face}
 use Rattle.geometry.specs.declared.Point.{Point}
 use Rattle.geometry.specs.declared.signed.Disc.{Disc}
@@ -67,13 +68,13 @@ pair_candidates ps o q p = candidates_by p.geometry ps o q p (pair_features ps o
 
 -- ---- whether a material is asked for
 abbrev pub disc_deep : List PlacedFace → Disc → Bool
-disc_deep faces d = any (λ f. found_deep (disc_on_face d f.face)) faces
+disc_deep faces d = list_any (λ f. found_deep (disc_on_face d f.face)) faces
 
 abbrev pub any_deep : List PlacedDisc → List PlacedFace → Bool
-any_deep discs faces = any (λ d. disc_deep faces d.disc) discs
+any_deep discs faces = list_any (λ d. disc_deep faces d.disc) discs
 
 abbrev pub center_deep : List PlacedFace → Point → Bool
-center_deep faces c = any (λ f. found_deep (center_on_face c f.face)) faces
+center_deep faces c = list_any (λ f. found_deep (center_on_face c f.face)) faces
 
 abbrev pub no_material : Material
 no_material = record { solids = []; cuts = [] }

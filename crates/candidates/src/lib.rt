@@ -1,7 +1,7 @@
 // The candidates of a pair at a pose (contact/rows.rs: `read_pair`), in lent arrays.
 #![tactic(auto)]
 
-ghost use Rattle.std.specs.Prelude.{◌≡◌, true, false, cond, [], map, ◌+◌, ◌*◌, ◌<◌, ◌≤◌, length};
+ghost use Rattle.std.specs.Prelude.{◌≡◌, true, false, cond, [], map, ◌+◌, ◌*◌, ◌≤◌, length};
 ghost use Rattle.laws.specs.Lists.{flat};
 ghost use Rattle.mechanism.specs.Check.{FewParts, pair_drawn};
 ghost use Rattle.material.specs.Material.{material_of};
@@ -31,56 +31,28 @@ fn place_faces(s: SideFeatures, place: Placement) -> SideFeatures
     requires { (s.faces ≤ 12) × (s.discs ≤ 28) }
     ensures { (result.faces ≡ s.faces) × (result.discs ≡ s.discs) × (faces_in result ≡ map (place_face place) (faces_in s)) × (discs_in result ≡ discs_in s) }
 {
-    let n = s.faces;
     let mut face = s.face;
-    let mut i: usize = 0;
-    while i < n {
-        let p = s.face[i];
-        let piece = p.piece;
+    for i in 0..s.faces {
         face[i] = PlacedFace {
-            piece,
-            face: world_face(place, p.face),
+            piece: s.face[i].piece,
+            face: world_face(place, s.face[i].face),
         };
-        i += 1;
     }
-    let disc = s.disc;
-    let center = s.center;
-    SideFeatures {
-        body: s.body,
-        faces: n,
-        face,
-        discs: s.discs,
-        disc,
-        center,
-    }
+    SideFeatures { face, ..s }
 }
 
 fn place_discs(s: SideFeatures, place: Placement) -> SideFeatures
     requires { (s.faces ≤ 12) × (s.discs ≤ 28) }
     ensures { (result.faces ≡ s.faces) × (result.discs ≡ s.discs) × (faces_in result ≡ faces_in s) × (discs_in result ≡ map (place_disc place) (discs_in s)) }
 {
-    let n = s.discs;
     let mut disc = s.disc;
-    let mut i: usize = 0;
-    while i < n {
-        let p = s.disc[i];
-        let piece = p.piece;
+    for i in 0..s.discs {
         disc[i] = PlacedDisc {
-            piece,
-            disc: world_disc(place, p.disc),
+            piece: s.disc[i].piece,
+            disc: world_disc(place, s.disc[i].disc),
         };
-        i += 1;
     }
-    let face = s.face;
-    let center = s.center;
-    SideFeatures {
-        body: s.body,
-        faces: s.faces,
-        face,
-        discs: n,
-        disc,
-        center,
-    }
+    SideFeatures { disc, ..s }
 }
 
 // ---- the readings of two sides into the lent arrays
@@ -99,17 +71,10 @@ fn disc_on_b(
     requires { (b.faces ≤ 12) × (at + b.faces ≤ length near.old) × (at + b.faces ≤ length named.old) }
     ensures { Written (flat (read_ab (material_of points.now starts.now n.solids n.all) d) (faces_in b)) at result near.old near.new named.old named.new }
 {
-    let count = b.faces;
-    let piece = d.piece;
-    let disc = d.disc;
     let mut to = at;
-    let mut k: usize = 0;
-    while k < count {
-        let f = b.face[k];
-        let other = f.piece;
-        let found = on_face_b(points, starts, n, disc, f.face);
-        to = put_candidate(near, named, to, piece, other, 1, found);
-        k += 1;
+    for f in &b.face[..b.faces] {
+        let found = on_face_b(points, starts, n, d.disc, f.face);
+        to = put_candidate(near, named, to, d.piece, f.piece, 1, found);
     }
     to
 }
@@ -128,13 +93,9 @@ fn discs_on_b(
     requires { (a.discs ≤ 28) × (b.faces ≤ 12) × (at + a.discs * b.faces ≤ length near.old) × (at + a.discs * b.faces ≤ length named.old) }
     ensures { Written (each (read_ab (material_of points.now starts.now n.solids n.all)) (discs_in a) (faces_in b)) at result near.old near.new named.old named.new }
 {
-    let count = a.discs;
     let mut to = at;
-    let mut i: usize = 0;
-    while i < count {
-        let d = a.disc[i];
-        to = disc_on_b(near, named, to, d, b, points, starts, n);
-        i += 1;
+    for d in &a.disc[..a.discs] {
+        to = disc_on_b(near, named, to, *d, b, points, starts, n);
     }
     to
 }
@@ -153,17 +114,10 @@ fn disc_on_a(
     requires { (a.faces ≤ 12) × (at + a.faces ≤ length near.old) × (at + a.faces ≤ length named.old) }
     ensures { Written (flat (read_ba (material_of points.now starts.now n.solids n.all) d) (faces_in a)) at result near.old near.new named.old named.new }
 {
-    let count = a.faces;
-    let piece = d.piece;
-    let disc = d.disc;
     let mut to = at;
-    let mut k: usize = 0;
-    while k < count {
-        let f = a.face[k];
-        let other = f.piece;
-        let found = on_face_a(points, starts, n, disc, f.face);
-        to = put_candidate(near, named, to, other, piece, 2, found);
-        k += 1;
+    for f in &a.face[..a.faces] {
+        let found = on_face_a(points, starts, n, d.disc, f.face);
+        to = put_candidate(near, named, to, f.piece, d.piece, 2, found);
     }
     to
 }
@@ -182,13 +136,9 @@ fn discs_on_a(
     requires { (b.discs ≤ 28) × (a.faces ≤ 12) × (at + b.discs * a.faces ≤ length near.old) × (at + b.discs * a.faces ≤ length named.old) }
     ensures { Written (each (read_ba (material_of points.now starts.now n.solids n.all)) (discs_in b) (faces_in a)) at result near.old near.new named.old named.new }
 {
-    let count = b.discs;
     let mut to = at;
-    let mut i: usize = 0;
-    while i < count {
-        let d = b.disc[i];
-        to = disc_on_a(near, named, to, d, a, points, starts, n);
-        i += 1;
+    for d in &b.disc[..b.discs] {
+        to = disc_on_a(near, named, to, *d, a, points, starts, n);
     }
     to
 }
@@ -204,17 +154,10 @@ fn disc_on_discs(
     requires { (b.discs ≤ 28) × (at + b.discs ≤ length near.old) × (at + b.discs ≤ length named.old) }
     ensures { Written (flat (read_discs d) (discs_in b)) at result near.old near.new named.old named.new }
 {
-    let count = b.discs;
-    let piece = d.piece;
-    let disc = d.disc;
     let mut to = at;
-    let mut k: usize = 0;
-    while k < count {
-        let e = b.disc[k];
-        let other = e.piece;
-        let found = geometry::signed::disc_on_disc(disc, e.disc);
-        to = put_candidate(near, named, to, piece, other, 0, found);
-        k += 1;
+    for e in &b.disc[..b.discs] {
+        let found = geometry::signed::disc_on_disc(d.disc, e.disc);
+        to = put_candidate(near, named, to, d.piece, e.piece, 0, found);
     }
     to
 }
@@ -230,13 +173,9 @@ fn discs_on_discs(
     requires { (a.discs ≤ 28) × (b.discs ≤ 28) × (at + a.discs * b.discs ≤ length near.old) × (at + a.discs * b.discs ≤ length named.old) }
     ensures { Written (each read_discs (discs_in a) (discs_in b)) at result near.old near.new named.old named.new }
 {
-    let count = a.discs;
     let mut to = at;
-    let mut i: usize = 0;
-    while i < count {
-        let d = a.disc[i];
-        to = disc_on_discs(near, named, to, d, b);
-        i += 1;
+    for d in &a.disc[..a.discs] {
+        to = disc_on_discs(near, named, to, *d, b);
     }
     to
 }
@@ -256,15 +195,10 @@ fn center_on_faces(
     requires { (a.faces ≤ 12) × (a.faces ≤ length near.old) × (a.faces ≤ length named.old) }
     ensures { Written (flat (read_center (material_of points.now starts.now n.solids n.all) piece c) (faces_in a)) 0 result near.old near.new named.old named.new }
 {
-    let count = a.faces;
-    let mut to: usize = 0;
-    let mut k: usize = 0;
-    while k < count {
-        let f = a.face[k];
-        let other = f.piece;
+    let mut to = 0;
+    for f in &a.face[..a.faces] {
         let found = center_on(points, starts, n, c, f.face);
-        to = put_candidate(near, named, to, other, piece, 2, found);
-        k += 1;
+        to = put_candidate(near, named, to, f.piece, piece, 2, found);
     }
     to
 }
@@ -276,16 +210,10 @@ fn disc_deep(d: Disc, t: SideFeatures) -> bool
     requires { t.faces ≤ 12 }
     ensures { result ≡ disc_deep (faces_in t) d }
 {
-    let count = t.faces;
-    let mut k: usize = 0;
-    while k < count {
-        let f = t.face[k];
-        k += 1;
-        if found_deep(geometry::signed::disc_on_face(d, f.face)) {
-            return true;
-        }
-    }
-    false
+    let faces = &t.face[..t.faces];
+    faces
+        .iter()
+        .any(|f| found_deep(geometry::signed::disc_on_face(d, f.face)))
 }
 
 // Whether one of a side's discs reads deep on one of the other side's faces.
@@ -293,16 +221,7 @@ fn any_deep(s: SideFeatures, t: SideFeatures) -> bool
     requires { (s.discs ≤ 28) × (t.faces ≤ 12) }
     ensures { result ≡ any_deep (discs_in s) (faces_in t) }
 {
-    let count = s.discs;
-    let mut i: usize = 0;
-    while i < count {
-        let d = s.disc[i];
-        i += 1;
-        if disc_deep(d.disc, t) {
-            return true;
-        }
-    }
-    false
+    s.disc[..s.discs].iter().any(|d| disc_deep(d.disc, t))
 }
 
 // Whether a centre reads deep on one of a side's faces.
@@ -310,16 +229,8 @@ fn center_deep(c: Point, t: SideFeatures) -> bool
     requires { t.faces ≤ 12 }
     ensures { result ≡ center_deep (faces_in t) c }
 {
-    let count = t.faces;
-    let mut k: usize = 0;
-    while k < count {
-        let f = t.face[k];
-        k += 1;
-        if found_deep(geometry::signed::center_on_face(c, f.face)) {
-            return true;
-        }
-    }
-    false
+    let faces = &t.face[..t.faces];
+    faces.iter().any(|f| found_deep(geometry::signed::center_on_face(c, f.face)))
 }
 
 // ---- the candidates of a pair
@@ -339,16 +250,14 @@ fn deep_features(
     ensures { Written (placed_candidates (side_material ps o q p.a true) (side_material ps o q p.b true) a b) 0 result near.old near.new named.old named.new }
 {
     let mut points = [[0.0; 2]; 6144];
-    let mut starts = [0usize; 33];
-    let ua = p.a;
-    let ub = p.b;
+    let mut starts = [0; 33];
     let n = draw(
         &mut points,
         &mut starts,
         ps,
         o,
         q,
-        side_chosen(ps, ub, true),
+        side_chosen(ps, p.b, true),
     );
     let i = discs_on_b(
         near,
@@ -366,7 +275,7 @@ fn deep_features(
         ps,
         o,
         q,
-        side_chosen(ps, ua, true),
+        side_chosen(ps, p.a, true),
     );
     let j = discs_on_a(
         near,
@@ -392,7 +301,7 @@ fn plain_features(
     ensures { Written (placed_candidates no_material no_material a b) 0 result near.old near.new named.old named.new }
 {
     let points = [[0.0; 2]; 1];
-    let starts = [0usize; 1];
+    let starts = [0; 1];
     let n = Polygons {
         solids: 0,
         all: 0,
@@ -416,7 +325,7 @@ fn features_candidates(
     requires { FewParts ps × FewPlaced a b × (784 ≤ length near.old) × (784 ≤ length named.old) }
     ensures { Written (placed_candidates (side_material ps o q p.a true) (side_material ps o q p.b true) a b) 0 result near.old near.new named.old named.new }
 {
-    if any_deep(a, b) | any_deep(b, a) {
+    if any_deep(a, b) || any_deep(b, a) {
         return deep_features(near, named, ps, o, q, p, a, b);
     }
     plain_features(near, named, a, b)
@@ -438,7 +347,7 @@ fn deep_center(
     ensures { Written (flat (read_center (side_material ps o q u false) piece c) (faces_in a)) 0 result near.old near.new named.old named.new }
 {
     let mut points = [[0.0; 2]; 6144];
-    let mut starts = [0usize; 33];
+    let mut starts = [0; 33];
     let n = draw(
         &mut points,
         &mut starts,
@@ -459,6 +368,7 @@ fn deep_center(
     )
 }
 
+#[tactic(auto, unfolding(laws::specs::Lists::list_in))]
 fn plain_center(
     near: &mut [Value],
     named: &mut [Place],
@@ -470,7 +380,7 @@ fn plain_center(
     ensures { Written (flat (read_center no_material piece c) (faces_in a)) 0 result near.old near.new named.old named.new }
 {
     let points = [[0.0; 2]; 1];
-    let starts = [0usize; 1];
+    let starts = [0; 1];
     let n = Polygons {
         solids: 0,
         all: 0,
@@ -520,20 +430,14 @@ fn drawn_candidates(
     ensures { Written (pair_candidates ps o q p) 0 result near.old near.new named.old named.new }
 {
     let f = pair_features_at(ps, o, p);
-    let fa = f.a;
-    let fb = f.b;
-    let a = place_side(fa, q);
-    let u = p.a;
-    let geometry = p.geometry;
-    match geometry {
+    let a = place_side(f.a, q);
+    match p.geometry {
         PairGeometry::Features => {
-            features_candidates(near, named, ps, o, q, p, a, place_side(fb, q))
+            features_candidates(near, named, ps, o, q, p, a, place_side(f.b, q))
         }
         PairGeometry::CenterBearing => {
-            let c = fb.center;
-            let piece = c.piece;
-            let place = placement_at(q, fb.body);
-            center_candidates(near, named, ps, o, q, u, piece, place.world(c.point), a)
+            let c = placement_at(q, f.b.body).world(f.b.center.point);
+            center_candidates(near, named, ps, o, q, p.a, f.b.center.piece, c, a)
         }
     }
 }
@@ -541,7 +445,7 @@ fn drawn_candidates(
 fn candidate_room(ps: Parts, p: ContactPair, near: usize, named: usize) -> bool
     ensures { result ≡ candidate_room ps p near named }
 {
-    pair_drawn(ps, p) & ((784 <= near) & (784 <= named))
+    pair_drawn(ps, p) && 784 <= near && 784 <= named
 }
 
 // Writes the candidates of a pair at a pose, in order; nothing where a side is not drawn or the arrays are too short.
@@ -555,9 +459,7 @@ pub fn pair_candidates(
 ) -> usize
     ensures { Written (cond (candidate_room ps p (length near.old) (length named.old)) (pair_candidates ps o q p) []) 0 result near.old near.new named.old named.new }
 {
-    let n = near.len();
-    let m = named.len();
-    if candidate_room(ps, p, n, m) {
+    if candidate_room(ps, p, near.len(), named.len()) {
         return drawn_candidates(near, named, ps, o, q, p);
     }
     0

@@ -5,84 +5,52 @@ ghost use Rattle.std.specs.Prelude.{◌≡◌};
 ghost use Rattle.corners.specs.Corners.{right_of, normal_of, ends_normals, face_of, convex_of, vertex_of, run_back, arc_of, corner_of};
 
 use geometry::signed::{Disc, Face};
-use geometry::{Dir, MaybeDir, Point, Seg};
-
-#[derive(Clone, Copy)]
-pub enum MaybeSeg {
-    NoSeg,
-    SomeSeg(Seg),
-}
-
-// The normals at a segment's start and at its end.
-#[derive(Clone, Copy)]
-enum MaybeEnds {
-    NoEnds,
-    SomeEnds(Dir, Dir),
-}
-
-#[derive(Clone, Copy)]
-pub enum MaybeFace {
-    NoFace,
-    SomeFace(Face),
-}
-
-#[derive(Clone, Copy)]
-pub enum MaybeDisc {
-    NoDisc,
-    SomeDisc(Disc),
-}
+use geometry::{Dir, Point, Seg};
 
 // ---- normals, faces, vertices
 
-fn right_of(d: MaybeDir) -> MaybeDir
+fn right_of(d: Option<Dir>) -> Option<Dir>
     ensures { result ≡ right_of d }
 {
-    match d {
-        MaybeDir::SomeDir(v) => Dir::new(v.y, -v.x),
-        MaybeDir::NoDir => MaybeDir::NoDir,
-    }
+    let v = d?;
+    Dir::new(v.y, -v.x)
 }
 
-fn normal(a: Point, b: Point) -> MaybeDir
+#[tactic(auto, unfolding(crate::specs::Corners::normal_of))]
+fn normal(a: Point, b: Point) -> Option<Dir>
     ensures { result ≡ normal_of a b }
 {
     right_of(Dir::new(b.x - a.x, b.y - a.y))
 }
 
-fn ends_normals(seg: Seg) -> MaybeEnds
+// The normals at a segment's start and at its end.
+#[tactic(auto, unfolding(crate::specs::Corners::ends_normals))]
+fn ends_normals(seg: Seg) -> Option<(Dir, Dir)>
     ensures { result ≡ ends_normals seg }
 {
     match seg {
         Seg::Line { a, b } => {
-            let n = normal(a, b);
-            match n {
-                MaybeDir::SomeDir(d) => MaybeEnds::SomeEnds(d, d),
-                MaybeDir::NoDir => MaybeEnds::NoEnds,
-            }
+            let n = normal(a, b)?;
+            Some((n, n))
         }
-        Seg::Arc { c, r, from, to } => MaybeEnds::SomeEnds(from, to),
+        Seg::Arc { from, to, .. } => Some((from, to)),
     }
 }
 
-pub fn face(seg: Seg) -> MaybeFace
+#[tactic(auto, unfolding(crate::specs::Corners::face_of))]
+pub fn face(seg: Seg) -> Option<Face>
     ensures { result ≡ face_of seg }
 {
     match seg {
         Seg::Line { a, b } => {
-            let n = normal(a, b);
-            match n {
-                MaybeDir::SomeDir(d) => MaybeFace::SomeFace(Face {
-                    a: a,
-                    b: b,
-                    normal: d,
-                }),
-                MaybeDir::NoDir => MaybeFace::NoFace,
-            }
+            let normal = normal(a, b)?;
+            Some(Face { a, b, normal })
         }
-        Seg::Arc { c, r, from, to } => MaybeFace::NoFace,
+        Seg::Arc { .. } => None,
     }
 }
 
+#[tactic(auto, unfolding(crate::specs::Corners::convex_of))]
 fn convex(from: Dir, to: Dir) -> bool
     ensures { result ≡ convex_of from to }
 {
@@ -91,64 +59,54 @@ fn convex(from: Dir, to: Dir) -> bool
     (turn > 0.0) | ((turn == 0.0) & (back < 0.0))
 }
 
-pub fn vertex(previous: Seg, next: Seg) -> MaybeDisc
+#[tactic(auto, unfolding(crate::specs::Corners::vertex_of))]
+pub fn vertex(previous: Seg, next: Seg) -> Option<Disc>
     ensures { result ≡ vertex_of previous next }
 {
-    let p = ends_normals(previous);
-    let n = ends_normals(next);
-    match p {
-        MaybeEnds::SomeEnds(f, from) => match n {
-            MaybeEnds::SomeEnds(to, t) => {
-                if convex(from, to) {
-                    MaybeDisc::SomeDisc(Disc {
-                        center: next.start(),
-                        radius: 0.0,
-                        from: from,
-                        to: to,
-                    })
-                } else {
-                    MaybeDisc::NoDisc
-                }
-            }
-            MaybeEnds::NoEnds => MaybeDisc::NoDisc,
-        },
-        MaybeEnds::NoEnds => MaybeDisc::NoDisc,
+    let (_, from) = ends_normals(previous)?;
+    let (to, _) = ends_normals(next)?;
+    if convex(from, to) {
+        Some(Disc {
+            center: next.start(),
+            radius: 0.0,
+            from,
+            to,
+        })
+    } else {
+        None
     }
 }
 
 // ---- the other way round, arcs and corners
 
-pub fn run_back(seg: Seg) -> MaybeSeg
+pub fn run_back(seg: Seg) -> Option<Seg>
     ensures { result ≡ run_back seg }
 {
     match seg {
-        Seg::Line { a, b } => MaybeSeg::SomeSeg(Seg::Line { a: b, b: a }),
-        Seg::Arc { c, r, from, to } => MaybeSeg::NoSeg,
+        Seg::Line { a, b } => Some(Seg::Line { a: b, b: a }),
+        Seg::Arc { .. } => None,
     }
 }
 
-pub fn arc(cut: bool, seg: Seg) -> MaybeDisc
+pub fn arc(cut: bool, seg: Seg) -> Option<Disc>
     ensures { result ≡ arc_of cut seg }
 {
     if cut {
-        return MaybeDisc::NoDisc;
+        return None;
     }
     match seg {
-        Seg::Arc { c, r, from, to } => MaybeDisc::SomeDisc(Disc {
+        Seg::Arc { c, r, from, to } => Some(Disc {
             center: c,
             radius: r,
-            from: from,
-            to: to,
+            from,
+            to,
         }),
-        Seg::Line { a, b } => MaybeDisc::NoDisc,
+        Seg::Line { .. } => None,
     }
 }
 
-pub fn corner(previous: MaybeSeg, seg: Seg) -> MaybeDisc
+pub fn corner(previous: Option<Seg>, seg: Seg) -> Option<Disc>
     ensures { result ≡ corner_of previous seg }
 {
-    match previous {
-        MaybeSeg::SomeSeg(p) => vertex(p, seg),
-        MaybeSeg::NoSeg => MaybeDisc::NoDisc,
-    }
+    vertex(previous?, seg)
 }

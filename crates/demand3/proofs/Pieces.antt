@@ -8,8 +8,6 @@ use lib.Dec.{T, eqb, eqb→eq}
 use lib.ListN.{length}
 use lib.Ieee.Fits.{and_l, and_r, and_i, eq→eqb}
 use Rattle.geometry.specs.Signed.{disc_on_face, disc_on_disc, center_on_face, on_a, on_b}
-use Rattle.geometry.specs.declared.signed.MaybeProximity.{MaybeProximity}
-use Rattle.geometry.specs.declared.signed.MaybeProximity.TheVariants.{SomeProximity, NoProximity}
 use Rattle.mechanism.specs.Piece.{letter_of, part_of, seg_of, same_piece}
 use Rattle.mechanism.specs.declared.features.Piece.{Piece}
 use Rattle.showing.specs.Showing.{Alike}
@@ -17,6 +15,8 @@ use Rattle.proximities.specs.Proximities.{reading, kept_if, exchanged, real_of, 
 use Rattle.proximities.specs.declared.Candidate.{Candidate}
 use Rattle.shown_rows.specs.Rows.{candidate_at, decides, deciding, alike}
 use Rattle.demand3.specs.Demand3.{AtMostOne}
+use Rattle.std.proofs.Common.{Option, Some, None}
+use Rattle.geometry.specs.declared.signed.Proximity.{Proximity}
 
 -- ---- agreeing is symmetric and transitive
 same-sym : (a b : ℕ) → T (eqb a b) → T (eqb b a)
@@ -96,9 +96,9 @@ pieces_agree cs = record {
 }
 
 -- ---- at most one candidate a choice
-reading-one : (a b : Piece) (who : ℕ) (found : MaybeProximity) → length (reading a b who found) ≤ 1
-reading-one a b who (SomeProximity x) = omega arith
-reading-one a b who NoProximity = omega arith
+reading-one : (a b : Piece) (who : ℕ) (found : Option Proximity) → length (reading a b who found) ≤ 1
+reading-one a b who (Some x) = omega arith
+reading-one a b who None = omega arith
 
 pub at_most_one : AtMostOne
 unfolding read_ab read_ba read_discs read_center

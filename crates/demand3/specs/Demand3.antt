@@ -1,6 +1,6 @@
 -- Demand 3 (document 01, "Words of demand 3"): what holds of the rows of every pair, of the governing row and of the bearing, for every description, pose and margin, the accepted ones
 -- among them. What `rows` writes is `rows_of`, `grads_of` and `slips_of` by its contract; what `governing_in` and `bearing_in` answer is `governing_of` and `bearing_from` by theirs.
-use Rattle.std.specs.Prelude.{ℕ, ◌<◌, ◌≤◌, ◌≡◌, Bool, not, cond, ◌⊎◌, T, eqb, length, get_or, Float}
+use Rattle.std.specs.Prelude.{ℕ, ◌<◌, ◌≤◌, ◌≡◌, Bool, not, cond, ◌⊎◌, T, eqb, length, get_or, Float, Some, Ok}
 use mathlib.Core.List.{List, [], ◌∷◌, map, Memᴰ}
 use Rattle.std.proofs.lemmas.List.Edits.{sets}
 use Rattle.std.specs.Float.Ieee.{lt, eq}
@@ -13,7 +13,6 @@ use Rattle.mechanism.specs.Description.{pair_at}
 use Rattle.mechanism.specs.Rows.{place_row, value_row}
 use Rattle.mechanism.specs.declared.Mechanism.{Mechanism}
 use Rattle.mechanism.specs.declared.bearing.Bearing.{Bearing}
-use Rattle.mechanism.specs.declared.bearing.MaybeBearing.TheVariants.{SomeBearing}
 use Rattle.mechanism.specs.declared.features.Piece.{Piece}
 use Rattle.bodies.specs.declared.pose.Pose.{Pose}
 use Rattle.mechanism.specs.declared.rows.Row.{Row}
@@ -27,9 +26,9 @@ use Rattle.proximities.specs.declared.Candidate.{Candidate}
 use Rattle.candidates.specs.Candidates.{pair_candidates}
 use Rattle.shown_rows.specs.Rows.{candidate_at, gap_at, decides, alike, shown_of, row_of, grad_of, slip_of, features_of_pair, rows_of_pair, rows_of, grads_of, slips_of}
 use Rattle.governing.specs.Governing.{governing_of, Governing}
-use Rattle.governing.specs.declared.MaybeRow.TheVariants.{SomeRow}
 use Rattle.bearings.specs.Bearing.{bearing_from, row_at}
 use Rattle.reading.specs.Reading.{no_pair_reading, reading_of}
+use Rattle.reading.specs.declared.Reading.{Reading}
 
 -- a list of rows without those that do not pass
 unfoldable pub only : (Row → Bool) → List Row → List Row
@@ -102,7 +101,7 @@ slip_of_row m q r = slip_of m.bodies q (features_of_pair m r.pair) r
 -- a bearing of pair p by n rows: the pair's governing row is there, and its gap and point are repeated
 pub record Repeats (row : ℕ → Row) (n p : ℕ) (b : Bearing) : Type 0 where
   pub by : ℕ
-  pub governs : governing_of (λ k. (row k).pair) (λ k. (row k).gap) n p ≡ SomeRow by
+  pub governs : governing_of (λ k. (row k).pair) (λ k. (row k).gap) n p ≡ Some by
   pub gap : b.gap ≡ (row by).gap
   pub point : b.point ≡ (row by).point
 
@@ -126,9 +125,9 @@ pub record Demand3 (m : Mechanism) (q : Pose) : Type 0 where
   -- the governing row of whatever records are lent
   pub governing : (pair : ℕ → ℕ) (gap : ℕ → Float) (n p : ℕ) → Governing pair gap n p (governing_of pair gap n p)
   -- a bearing of whatever records are lent: only for a pair of the description, and only with a governing row
-  pub bearing : (row : ℕ → Row) (n p : ℕ) (b : Bearing) → (bearing_from m q row n p).bearing ≡ SomeBearing b → (p < m.pairs.count) × Repeats row n p b
-  -- the bearing that a whole reading has of pair p, whatever was lent: only for a pair of the description, and it repeats the governing row of the reading's own rows. A listing's line
+  pub bearing : (row : ℕ → Row) (n p : ℕ) (b : Bearing) → bearing_from m q row n p ≡ Ok (Some b) → (p < m.pairs.count) × Repeats row n p b
+  -- the bearing that a whole reading r has of pair p, whatever was lent: only for a pair of the description, and it repeats the governing row of the reading's own rows. A listing's line
   -- B,p is written from this bearing: `read_of` of reading_lines/specs/Readings.antt is what the reading holds of the pair
-  pub reading_bearing : (g : Float) (places values grad slip p : ℕ) (b : Bearing) (none : Row)
-      → (get_or (reading_of m q g places values grad slip).pair p no_pair_reading).bearing ≡ SomeBearing b
+  pub reading_bearing : (g : Float) (places values grad slip p : ℕ) (r : Reading) (b : Bearing) (none : Row)
+      → reading_of m q g places values grad slip ≡ Ok r → (get_or r.pair p no_pair_reading).bearing ≡ Some b
       → (p < m.pairs.count) × Repeats (λ k. get_or (rows_of m q g) k none) (length (rows_of m q g)) p b

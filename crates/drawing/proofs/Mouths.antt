@@ -18,7 +18,6 @@ use Rattle.laws.proofs.Loops.{filter-yes, filter-no, filter-done}
 use Rattle.laws.proofs.Sums.{sum_more, sum-part}
 use Rattle.laws.proofs.Writing.{starts, goes_on, appends-map, ends, ends-count}
 use Rattle.geometry.specs.Geometry.{start_of, end_of}
-use Rattle.geometry.specs.declared.Dir.{Dir}
 use Rattle.geometry.specs.declared.Point.{Point}
 use Rattle.geometry.specs.declared.Seg.{Seg}
 use Rattle.geometry.specs.declared.Seg.TheVariants.{Line, Arc}
@@ -31,7 +30,7 @@ use Rattle.mechanism.specs.declared.Outlines.{Outlines}
 use Rattle.mechanism.specs.declared.Parts.{Parts}
 use Rattle.silhouette.specs.Silhouette.{silhouette_at, silhouette_count}
 use Rattle.material.specs.Material.{Edge}
-use Rattle.drawing.specs.Drawing.{is_read_cut, drawn_points, row_of}
+use Rattle.drawing.specs.Drawing.{is_read_cut, row_of}
 use Rattle.drawing.specs.Samples.{ends_of, mouths_of, is_mouth, on_line, sample_points, samples_of, mouth_row, mouth_room}
 use Rattle.drawing.proofs.Segments.{drawn-short, silhouette_short, part-within, part-counted}
 
@@ -65,10 +64,6 @@ module _ (g : Point → Point) (at : ℕ) (out₀ : List (List Float)) {s : Seg}
   pub of-line : {a b : Point} → s ≡ Line a b → (r ≡ at + 17) × (out ≡ sets out₀ at (map row_of (map g (list_in (on_line a b) 17 0))))
       → (r ≡ at + length (sample_points s)) × (out ≡ sets out₀ at (map row_of (map g (sample_points s))))
   of-line {a} {b} e w = (w.0 ∙ ap (λ (n : ℕ). at + n) (sym (line-long (on_line a b))) ∙ ap (λ (x : Seg). at + length (sample_points x)) (sym e), w.1 ∙ ap (λ (x : Seg). sets out₀ at (map row_of (map g (sample_points x)))) (sym e))
-
-  pub of-arc : {c : Point} {x : Float} {from to : Dir} → s ≡ Arc c x from to → (r ≡ at + length (drawn_points (Arc c x from to))) × (out ≡ sets out₀ at (map row_of (map g (drawn_points (Arc c x from to)))))
-      → (r ≡ at + length (sample_points s)) × (out ≡ sets out₀ at (map row_of (map g (sample_points s))))
-  of-arc e w = (w.0 ∙ ap (λ (x : Seg). at + length (sample_points x)) (sym e), w.1 ∙ ap (λ (x : Seg). sets out₀ at (map row_of (map g (sample_points x)))) (sym e))
 
 -- a mouth has none, any other segment has its points
 module _ (mouths : List Edge) (s : Seg) {a b : Point} {t : Bool} (e : a ≡ start_of s) (f : b ≡ end_of s) (is : t ≡ is_mouth mouths (record { a = a; b = b })) where

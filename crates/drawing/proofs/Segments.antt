@@ -195,7 +195,7 @@ module _ {A : Type 0} {out₀ : List A} {at₀ : ℕ} {all : List A} where
 -- the points of a segment are written
 pub drawn-end : (g : Point → Point) {d : Drawn} (s : Seg) {out₀ out : List (List Float)} {at k : ℕ} → d ≡ drawn_of s → k ≤ d.count → d.count ≤ k
     → Writing out₀ at (map row_of (map g (take d.count d.points))) out (at + k) (map row_of (map g (drop k (take d.count d.points))))
-    → (at + k ≡ at + length (drawn_points s)) × (out ≡ sets out₀ at (map row_of (map g (drawn_points s))))
+    → (at + d.count ≡ at + length (drawn_points s)) × (out ≡ sets out₀ at (map row_of (map g (drawn_points s))))
 drawn-end g {d} s {out₀} {out} {at} {k} e h l w =
     let n = (drawn-held s e).0 in
     let m = (drawn-held s e).1 in

@@ -3,17 +3,16 @@ use Prim.Native.Nat.{ℕ, ◌+◌, ◌-◌, ◌<◌, ◌≤◌}
 use native.Mathlib.Omega.{arith}
 use native.Mathlib.Nat.{sub-zero}
 use mathlib.Core.Path.{◌≡◌, refl, sym, ap, ◌∙◌}
-use mathlib.Core.Bool.{Bool, false, not, ◌&&◌, ◌||◌}
+use mathlib.Core.Bool.{Bool, not, ◌&&◌, ◌||◌}
 use mathlib.Core.List.{List, ◌∷◌}
 use lib.Dec.{eqb}
-use lib.Ieee.{eq, lt, mul, of_bits}
-use lib.ListN.{length, take, get_or-eq_default}
+use lib.ListN.{length, take}
 use lib.Seq.{take_all}
 use Rattle.laws.specs.Fill.{Filling}
 use Rattle.laws.specs.Lists.{list_in, any}
 use Rattle.laws.proofs.Fill.{fill_end}
 use Rattle.laws.proofs.Lists.{list_turn, list_done, list_as}
-use Rattle.mechanism.specs.Description.{no_part, no_range, part_at, range_at}
+use Rattle.mechanism.specs.Description.{no_range, part_at, range_at}
 use Rattle.mechanism.specs.declared.Parts.{Parts}
 use Rattle.mechanism.specs.declared.pair.Surface.{Surface}
 use Rattle.mechanism.specs.declared.part.SurfaceRef.{SurfaceRef}
@@ -24,14 +23,6 @@ pub ranges_list : (p : SurfaceRef → Bool) (u : Surface) (n : ℕ) → length u
 ranges_list p u n k e =
     let h = e.0 in
     ap (λ (m : ℕ). any p (list_in (range_at u) m 0)) (sub-zero n) ∙ ap (any p) (list_as (range_at u) u.range no_range (λ i l. refl) n 0 (omega (arith, k, h)) ∙ e.1)
-
--- where there is no part, none is sampled
-none-sampled : is_sampled no_part ≡ false
-unfolding eq lt mul of_bits
-none-sampled = refl
-
-pub past-sampled : (ps : Parts) (i : ℕ) → length ps.part ≤ i → is_sampled (part_at ps i) ≡ false
-past-sampled ps i h = ap is_sampled (get_or-eq_default ps.part no_part h) ∙ none-sampled
 
 -- ---- the parts of a side, chosen one by one
 module _ (ps : Parts) (u : Surface) (cuts : Bool) where

@@ -44,29 +44,21 @@ pub struct Polygons {
 fn is_cut(role: Role) -> bool
     ensures { result ≡ is_cut role }
 {
-    match role {
-        Role::Solid => false,
-        Role::Cut => true,
-        Role::Lining => false,
-    }
+    matches!(role, Role::Cut)
 }
 
 // Whether a part is a solid or a lining in the section.
 pub fn is_sampled(p: Part) -> bool
     ensures { result ≡ is_sampled p }
 {
-    let role = p.role;
-    let sweep = p.sweep;
-    !is_cut(role) & is_in_the_section(sweep)
+    !is_cut(p.role) & is_in_the_section(p.sweep)
 }
 
 // Whether a part is a cut in the section.
 pub fn is_read_cut(p: Part) -> bool
     ensures { result ≡ is_read_cut p }
 {
-    let role = p.role;
-    let sweep = p.sweep;
-    is_cut(role) & is_in_the_section(sweep)
+    is_cut(p.role) & is_in_the_section(p.sweep)
 }
 
 // ---- the parts of a side
@@ -76,8 +68,7 @@ fn part_at(ps: Parts, i: usize) -> Part
     ensures { result ≡ Rattle.mechanism.specs.Description.part_at ps i }
 {
     if i < 32 {
-        let p = ps.part[i];
-        return p;
+        return ps.part[i];
     }
     let nan = 0.0 / 0.0;
     Part {
@@ -102,12 +93,8 @@ fn ranges(u: Surface) -> usize
 pub fn is_own(u: Surface, i: usize) -> bool
     ensures { result ≡ is_own u i }
 {
-    let n = ranges(u);
-    let mut k: usize = 0;
-    while k < n {
-        let r = u.range[k];
-        k += 1;
-        if r.part == i {
+    for k in 0..ranges(u) {
+        if u.range[k].part == i {
             return true;
         }
     }
@@ -118,17 +105,9 @@ pub fn is_own(u: Surface, i: usize) -> bool
 fn has_own(ps: Parts, u: Surface) -> bool
     ensures { result ≡ has_own ps u }
 {
-    let n = ranges(u);
-    let mut k: usize = 0;
-    while k < n {
-        let r = u.range[k];
-        let i = r.part;
-        k += 1;
-        if i < 32 {
-            let p = ps.part[i];
-            if is_sampled(p) {
-                return true;
-            }
+    for k in 0..ranges(u) {
+        if is_sampled(part_at(ps, u.range[k].part)) {
+            return true;
         }
     }
     false
@@ -138,9 +117,7 @@ fn has_own(ps: Parts, u: Surface) -> bool
 pub fn body_of_side(ps: Parts, u: Surface) -> usize
     ensures { result ≡ body_of_side ps u }
 {
-    let r = u.range[0];
-    let p = part_at(ps, r.part);
-    p.body
+    part_at(ps, u.range[0].part).body
 }
 
 pub fn what_is(solid: bool, cut: bool) -> u8
@@ -156,14 +133,12 @@ pub fn side_chosen(ps: Parts, u: Surface, cuts: bool) -> Chosen
     let body = body_of_side(ps, u);
     let own = has_own(ps, u);
     let mut what = [0u8; 32];
-    let mut i: usize = 0;
-    while i < 32 {
+    for i in 0..32 {
         let p = ps.part[i];
         let there = p.body == body;
         let solid = there & (is_sampled(p) & (!own | is_own(u, i)));
         let cut = there & (is_read_cut(p) & cuts);
         what[i] = what_is(solid, cut);
-        i += 1;
     }
     Chosen { what }
 }
@@ -176,14 +151,11 @@ fn draw_seg(points: &mut [Spot], at: usize, s: Seg, place: Placement) -> usize
     ensures { (result ≡ at + length (drawn_points s)) × (points.new ≡ sets points.old at (map row_of (map (world_of place) (drawn_points s)))) }
 {
     let d = s.drawn();
-    let n = d.count;
-    let mut k: usize = 0;
-    while k < n {
+    for k in 0..d.count {
         let p = place.world(d.points[k]);
         points[at + k] = [p.x, p.y];
-        k += 1;
     }
-    at + k
+    at + d.count
 }
 
 // Writes the polygon of a part whose outline starts in row `first`, placed, from `at` on.
@@ -198,12 +170,9 @@ fn draw_polygon(
     requires { (p.segs ≤ 48) × (first + p.segs ≤ length segs.now) × (at + 8 * silhouette_count p ≤ length points.old) }
     ensures { (result ≡ at + length (flat drawn_points (silhouette_from (outlines_in segs.now) first p))) × (points.new ≡ sets points.old at (map row_of (map (world_of place) (flat drawn_points (silhouette_from (outlines_in segs.now) first p))))) }
 {
-    let n = silhouette_count(p);
     let mut to = at;
-    let mut i: usize = 0;
-    while i < n {
+    for i in 0..silhouette_count(p) {
         to = draw_seg(points, to, silhouette_seg(segs, first, p, i), place);
-        i += 1;
     }
     to
 }
@@ -229,22 +198,17 @@ fn draw_all(
     requires { FewParts ps × (start_of_part ps ps.count ≤ length segs.now) × (from.at + 16 * chosen_segs ps c w ps.count ≤ length points.old) × (from.count + chosen_count c w ps.count < length starts.old) }
     ensures { (result ≡ cursor_after from (polygons_of ps (outlines_in segs.now) q (chosen_as c w))) × (points.new ≡ sets points.old from.at (rows_of (polygons_of ps (outlines_in segs.now) q (chosen_as c w)))) × (starts.new ≡ sets starts.old (from.count + 1) (ends_from from.at (polygons_of ps (outlines_in segs.now) q (chosen_as c w)))) }
 {
-    let n = ps.count;
-    let mut first: usize = 0;
+    let mut first = 0;
     let mut at = from.at;
     let mut k = from.count;
-    let mut i: usize = 0;
-    while i < n {
-        let j = i;
-        let p = ps.part[j];
-        let f = first;
-        i += 1;
-        first += p.segs;
-        if c.what[j] == w {
-            at = draw_polygon(points, at, segs, f, p, placement_at(q, p.body));
+    for i in 0..ps.count {
+        let p = ps.part[i];
+        if c.what[i] == w {
+            at = draw_polygon(points, at, segs, first, p, placement_at(q, p.body));
             k += 1;
             starts[k] = at;
         }
+        first += p.segs;
     }
     Cursor { at, count: k }
 }

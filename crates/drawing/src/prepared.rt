@@ -27,21 +27,16 @@ pub fn choice_at(choices: &[ChoiceRow], i: usize) -> Chosen
 pub fn part_count(parts: &[PartRow]) -> usize
     ensures { (result ≡ parts_in parts.now) × (result ≤ 32) }
 {
-    let n = parts.len();
-    if n < 32 { n } else { 32 }
+    parts.len().min(32)
 }
 
 // How many points all polygons have.
 pub fn all_drawn(parts: &[PartRow]) -> usize
     ensures { (result ≡ all_drawn parts.now) × (result ≤ 24064) }
 {
-    let n = part_count(parts);
-    let mut sum: usize = 0;
-    let mut i: usize = 0;
-    while i < n {
-        let p = part_at(parts, i);
-        sum += p.points;
-        i += 1;
+    let mut sum = 0;
+    for i in 0..part_count(parts) {
+        sum += part_at(parts, i).points;
     }
     sum
 }
@@ -58,13 +53,9 @@ fn place_points(
     requires { (at + n ≤ length points.old) × (first ≤ 65535) × (n ≤ 752) }
     ensures { points.new ≡ sets points.old at (map row_of (map (world_of place) (list_in (point_at drawn.now) n first))) }
 {
-    let mut to = at;
-    let mut i: usize = 0;
-    while i < n {
+    for i in 0..n {
         let p = place.world(point_at(drawn, first + i));
-        points[to] = [p.x, p.y];
-        to += 1;
-        i += 1;
+        points[at + i] = [p.x, p.y];
     }
 }
 
@@ -81,9 +72,15 @@ fn draw_part(
     ensures { (result ≡ at + length (polygon_in drawn.now parts.now q i)) × (points.new ≡ sets points.old at (map row_of (polygon_in drawn.now parts.now q i))) }
 {
     let p = part_at(parts, i);
-    let n = p.points;
-    place_points(points, at, drawn, p.drawn, n, placement_at(q, p.body));
-    at + n
+    place_points(
+        points,
+        at,
+        drawn,
+        p.drawn,
+        p.points,
+        placement_at(q, p.body),
+    );
+    at + p.points
 }
 
 // Writes the polygons of the parts chosen as w, in order, behind those that are there.
@@ -100,15 +97,11 @@ fn draw_all(
     requires { (from.at + length (rows_of (polygons_in drawn.now parts.now q (chosen_as c w))) ≤ length points.old) × (from.count + length (polygons_in drawn.now parts.now q (chosen_as c w)) < length starts.old) }
     ensures { (result ≡ cursor_after from (polygons_in drawn.now parts.now q (chosen_as c w))) × (points.new ≡ sets points.old from.at (rows_of (polygons_in drawn.now parts.now q (chosen_as c w)))) × (starts.new ≡ sets starts.old (from.count + 1) (ends_from from.at (polygons_in drawn.now parts.now q (chosen_as c w)))) }
 {
-    let n = part_count(parts);
     let mut at = from.at;
     let mut k = from.count;
-    let mut i: usize = 0;
-    while i < n {
-        let j = i;
-        i += 1;
-        if c.what[j] == w {
-            at = draw_part(points, at, drawn, parts, q, j);
+    for i in 0..part_count(parts) {
+        if c.what[i] == w {
+            at = draw_part(points, at, drawn, parts, q, i);
             k += 1;
             starts[k] = at;
         }

@@ -34,33 +34,27 @@ fn put_ends(mouths: &mut [Mouth], at: usize, segs: &[SegRow], first: usize, p: P
     ensures { (result ≡ at + length (silhouette_from (outlines_in segs.now) first p)) × (mouths.new ≡ sets mouths.old at (map mouth_row (map ends_of (silhouette_from (outlines_in segs.now) first p)))) }
 {
     let n = silhouette_count(p);
-    let mut i: usize = 0;
-    while i < n {
+    for i in 0..n {
         let s = silhouette_seg(segs, first, p, i);
         let a = s.start();
         let e = s.end();
         mouths[at + i] = [a.x, a.y, e.x, e.y];
-        i += 1;
     }
-    at + i
+    at + n
 }
 
 fn put_mouths(mouths: &mut [Mouth], ps: Parts, segs: &[SegRow]) -> usize
     requires { FewParts ps × (start_of_part ps ps.count ≤ length segs.now) × (2 * start_of_part ps ps.count ≤ length mouths.old) }
     ensures { (result ≡ length (mouths_of ps (outlines_in segs.now))) × (mouths.new ≡ sets mouths.old 0 (map mouth_row (mouths_of ps (outlines_in segs.now)))) }
 {
-    let n = ps.count;
-    let mut first: usize = 0;
-    let mut at: usize = 0;
-    let mut i: usize = 0;
-    while i < n {
+    let mut first = 0;
+    let mut at = 0;
+    for i in 0..ps.count {
         let p = ps.part[i];
-        let f = first;
-        i += 1;
-        first += p.segs;
         if is_read_cut(p) {
-            at = put_ends(mouths, at, segs, f, p);
+            at = put_ends(mouths, at, segs, first, p);
         }
+        first += p.segs;
     }
     at
 }
@@ -73,6 +67,7 @@ fn mouth_room(ps: Parts, room: usize, segs: usize) -> bool
 }
 
 // Writes the ends of every segment of every cut in the section; nothing where a limit is passed, the array is too short or a segment is not there.
+#[tactic(auto, using(crate::proofs::Mouths::has_mouth_room))]
 pub fn draw_mouths(mouths: &mut [Mouth], ps: Parts, segs: &[SegRow]) -> usize
     ensures { (result ≡ cond (mouth_room ps (length mouths.old) (length segs.now)) (length (mouths_of ps (outlines_in segs.now))) 0) × (mouths.new ≡ cond (mouth_room ps (length mouths.old) (length segs.now)) (sets mouths.old 0 (map mouth_row (mouths_of ps (outlines_in segs.now)))) mouths.old) }
 {
@@ -84,6 +79,7 @@ pub fn draw_mouths(mouths: &mut [Mouth], ps: Parts, segs: &[SegRow]) -> usize
     0
 }
 
+#[tactic(auto, unfolding(crate::specs::Samples::same_ends))]
 fn same_ends(a: Point, b: Point, c: Point, d: Point) -> bool
     ensures { result ≡ same_ends (record { a = a; b = b }) (record { a = c; b = d }) }
 {
@@ -96,11 +92,7 @@ fn same_ends(a: Point, b: Point, c: Point, d: Point) -> bool
 pub fn is_mouth(mouths: &[Mouth], a: Point, b: Point) -> bool
     ensures { result ≡ is_mouth (mouths_in mouths.now) (record { a = a; b = b }) }
 {
-    let n = mouths.len();
-    let mut i: usize = 0;
-    while i < n {
-        let m = mouths[i];
-        i += 1;
+    for m in mouths {
         if same_ends(a, b, Point { x: m[0], y: m[1] }, Point { x: m[2], y: m[3] }) {
             return true;
         }
@@ -126,15 +118,11 @@ fn put_line(samples: &mut [Spot], at: usize, a: Point, b: Point, place: Placemen
     requires { at + 17 ≤ length samples.old }
     ensures { (result ≡ at + 17) × (samples.new ≡ sets samples.old at (map row_of (map (world_of place) (list_in (on_line a b) 17 0)))) }
 {
-    let mut k: u32 = 0;
-    let mut to = at;
-    while k < 17 {
+    for k in 0..17 {
         let p = place.world(on_line(a, b, k));
-        samples[to] = [p.x, p.y];
-        k += 1;
-        to += 1;
+        samples[at + k as usize] = [p.x, p.y];
     }
-    to
+    at + 17
 }
 
 fn put_points(samples: &mut [Spot], at: usize, s: Seg, place: Placement) -> usize
@@ -143,7 +131,7 @@ fn put_points(samples: &mut [Spot], at: usize, s: Seg, place: Placement) -> usiz
 {
     match s {
         Seg::Line { a, b } => put_line(samples, at, a, b, place),
-        Seg::Arc { c, r, from, to } => draw_seg(samples, at, Seg::Arc { c, r, from, to }, place),
+        Seg::Arc { .. } => draw_seg(samples, at, s, place),
     }
 }
 

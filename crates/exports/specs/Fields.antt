@@ -1,11 +1,9 @@
 -- An answer's floats by number: 0 is 1.0 where there is an answer and 0.0 where there is none, then the floats in the order of the fields. A number past them gives 0.0. Definitions only.
-use Rattle.std.specs.Prelude.{ℕ, ◌/◌, ◌%◌, cond, eqb, get_or, Float}
+use Rattle.std.specs.Prelude.{ℕ, ◌/◌, ◌%◌, cond, eqb, get_or, Float, Option, Some, None}
 use Rattle.std.specs.Float.{nan}
 use Rattle.ieee.specs.Consts.{zero_f, one_f}
 use Rattle.geometry.specs.declared.Point.{Point}
 use Rattle.geometry.specs.declared.Dir.{Dir}
-use Rattle.geometry.specs.declared.MaybeDir.{MaybeDir}
-use Rattle.geometry.specs.declared.MaybeDir.TheVariants.{SomeDir, NoDir}
 use Rattle.geometry.specs.declared.Drawn.{Drawn}
 use Rattle.geometry.specs.declared.Seg.{Seg}
 use Rattle.geometry.specs.declared.Seg.TheVariants.{Arc}
@@ -13,8 +11,6 @@ use Rattle.geometry.specs.Signed.{reversed_of, on_a, on_b}
 use Rattle.geometry.specs.declared.signed.Disc.{Disc}
 use Rattle.geometry.specs.declared.signed.Face.{Face}
 use Rattle.geometry.specs.declared.signed.Proximity.{Proximity}
-use Rattle.geometry.specs.declared.signed.MaybeProximity.{MaybeProximity}
-use Rattle.geometry.specs.declared.signed.MaybeProximity.TheVariants.{SomeProximity, NoProximity}
 
 abbrev pub point_at : Float → Float → Point
 point_at x y = record { x = x; y = y }
@@ -35,13 +31,13 @@ of_two n x y = cond (eqb n 1) x (cond (eqb n 2) y zero_f)
 abbrev pub of_five : ℕ → Float → Float → Float → Float → Float → Float
 of_five n a b c d e = cond (eqb n 1) a (cond (eqb n 2) b (cond (eqb n 3) c (cond (eqb n 4) d (cond (eqb n 5) e zero_f))))
 
-unfoldable pub dir_field : MaybeDir → ℕ → Float
-dir_field (SomeDir d) n = cond (eqb n 0) one_f (of_two n d.x d.y)
-dir_field NoDir n = zero_f
+unfoldable pub dir_field : Option Dir → ℕ → Float
+dir_field (Some d) n = cond (eqb n 0) one_f (of_two n d.x d.y)
+dir_field None n = zero_f
 
-unfoldable pub proximity_field : MaybeProximity → ℕ → Float
-proximity_field (SomeProximity p) n = cond (eqb n 0) one_f (of_five n p.gap p.normal.x p.normal.y p.point.x p.point.y)
-proximity_field NoProximity n = zero_f
+unfoldable pub proximity_field : Option Proximity → ℕ → Float
+proximity_field (Some p) n = cond (eqb n 0) one_f (of_five n p.gap p.normal.x p.normal.y p.point.x p.point.y)
+proximity_field None n = zero_f
 
 -- coordinate n of the eight points that an arc is drawn through
 unfoldable pub drawn_field : Drawn → ℕ → Float
@@ -51,7 +47,7 @@ drawn_field drawn n = let p = get_or drawn.points (n / 2 % 8) (point_at nan nan)
 unfoldable pub meeting_field : Proximity → ℕ → Float
 meeting_field p n =
     cond (eqb n 6) (on_a p).x
-    (cond (eqb n 7) (on_a p).y (cond (eqb n 8) (on_b p).x (cond (eqb n 9) (on_b p).y (proximity_field (SomeProximity (reversed_of p)) n))))
+    (cond (eqb n 7) (on_a p).y (cond (eqb n 8) (on_b p).x (cond (eqb n 9) (on_b p).y (proximity_field (Some (reversed_of p)) n))))
 
 abbrev pub arc_at : Float → Float → Float → Float → Float → Float → Float → Seg
 arc_at cx cy r fx fy tx ty = Arc (point_at cx cy) r (dir_at fx fy) (dir_at tx ty)

@@ -8,85 +8,75 @@ ghost use Rattle.geometry.specs.Geometry.{dir_of, halfway_of, drawn_of};
 ghost use Rattle.geometry.specs.Signed.{in_sector, disc_on_face, disc_on_disc, center_on_face};
 ghost use Rattle.exports.specs.Fields.{point_at, dir_at, disc_at, face_at, of_two, of_five, dir_field, proximity_field, drawn_field, meeting_field, arc_at, proximity_at};
 
-use geometry::signed::{Disc, Face, MaybeProximity, Proximity};
-use geometry::{Dir, Drawn, MaybeDir, Point, Seg};
-use ieee::num::choose;
+use geometry::signed::{Disc, Face, Proximity};
+use geometry::{Dir, Drawn, Point, Seg};
 
 fn of_two(n: u64, x: f64, y: f64) -> f64
     ensures { result ≡ of_two n x y }
 {
-    choose(n == 1, x, choose(n == 2, y, 0.0))
+    match n {
+        1 => x,
+        2 => y,
+        _ => 0.0,
+    }
 }
 
 fn of_five(n: u64, a: f64, b: f64, c: f64, d: f64, e: f64) -> f64
     ensures { result ≡ of_five n a b c d e }
 {
-    choose(
-        n == 1,
-        a,
-        choose(
-            n == 2,
-            b,
-            choose(n == 3, c, choose(n == 4, d, choose(n == 5, e, 0.0))),
-        ),
-    )
-}
-
-fn dir_field(found: MaybeDir, n: u64) -> f64
-    ensures { result ≡ dir_field found n }
-{
-    match found {
-        MaybeDir::SomeDir(d) => choose(n == 0, 1.0, of_two(n, d.x, d.y)),
-        MaybeDir::NoDir => 0.0,
+    match n {
+        1 => a,
+        2 => b,
+        3 => c,
+        4 => d,
+        5 => e,
+        _ => 0.0,
     }
 }
 
-fn proximity_field(found: MaybeProximity, n: u64) -> f64
+#[tactic(auto, unfolding(crate::specs::Fields::dir_field))]
+fn dir_field(found: Option<Dir>, n: u64) -> f64
+    ensures { result ≡ dir_field found n }
+{
+    match found {
+        Some(_) if n == 0 => 1.0,
+        Some(d) => of_two(n, d.x, d.y),
+        None => 0.0,
+    }
+}
+
+#[tactic(auto, unfolding(crate::specs::Fields::proximity_field))]
+fn proximity_field(found: Option<Proximity>, n: u64) -> f64
     ensures { result ≡ proximity_field found n }
 {
     match found {
-        MaybeProximity::SomeProximity(p) => {
-            let m = p.normal;
-            let q = p.point;
-            choose(n == 0, 1.0, of_five(n, p.gap, m.x, m.y, q.x, q.y))
-        }
-        MaybeProximity::NoProximity => 0.0,
+        Some(_) if n == 0 => 1.0,
+        Some(p) => of_five(n, p.gap, p.normal.x, p.normal.y, p.point.x, p.point.y),
+        None => 0.0,
     }
 }
 
 // Coordinate n of the eight points that an arc is drawn through.
+#[tactic(auto, unfolding(crate::specs::Fields::drawn_field))]
 fn drawn_field(drawn: Drawn, n: u64) -> f64
     ensures { result ≡ drawn_field drawn n }
 {
-    let i = (n / 2 % 8) as usize;
-    let p = drawn.points[i];
-    choose(n % 2 == 0, p.x, p.y)
+    let p = drawn.points[(n / 2 % 8) as usize];
+    if n % 2 == 0 { p.x } else { p.y }
 }
 
 // Of a meeting turned round the gap, the normal and the point, by 1 to 5; of its surface points, A's by 6 and 7, B's by 8 and 9.
+#[tactic(auto, unfolding(crate::specs::Fields::meeting_field))]
 fn meeting_field(p: Proximity, n: u64) -> f64
     ensures { result ≡ meeting_field p n }
 {
-    let back = p.reversed();
-    let a = p.on_a();
-    let b = p.on_b();
-    choose(
-        n == 6,
-        a.x,
-        choose(
-            n == 7,
-            a.y,
-            choose(
-                n == 8,
-                b.x,
-                choose(
-                    n == 9,
-                    b.y,
-                    proximity_field(MaybeProximity::SomeProximity(back), n),
-                ),
-            ),
-        ),
-    )
+    match n {
+        6 => p.on_a().x,
+        7 => p.on_a().y,
+        8 => p.on_b().x,
+        9 => p.on_b().y,
+        _ => proximity_field(Some(p.reversed()), n),
+    }
 }
 
 fn disc_at(cx: f64, cy: f64, r: f64, fx: f64, fy: f64, tx: f64, ty: f64) -> Disc

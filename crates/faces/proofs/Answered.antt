@@ -10,9 +10,6 @@ use Rattle.laws.proofs.Choice.{cond_yes}
 use Rattle.mechanism.specs.Check.{check_of, call_checked, answer_of}
 use Rattle.mechanism.specs.Description.{pair_at}
 use Rattle.bodies.specs.Pose.{pose_fits}
-use Rattle.bodies.specs.declared.Checked.{Checked}
-use Rattle.bodies.specs.declared.Checked.TheVariants.{Accepted, Refused}
-use Rattle.mechanism.specs.declared.FloatAnswer.TheVariants.{IsFloat, NoFloat}
 use Rattle.mechanism.specs.declared.Mechanism.{Mechanism}
 use Rattle.bodies.specs.declared.Problem.{Problem}
 use Rattle.mechanism.specs.declared.pair.ContactPair.{ContactPair}
@@ -22,9 +19,11 @@ use Rattle.mechanism.proofs.Drawn.{accepted-pair-drawn}
 use Rattle.sides.specs.Contacts.{pair_features, pair_features_at}
 use Rattle.sides.specs.declared.contacts.PairFeatures.{PairFeatures}
 use Rattle.faces.specs.Faces.{sides_overlap, face_overlap_answer}
+use Rattle.std.proofs.Common.{Ok, Err}
+use Rattle.bodies.specs.Check.{Checked}
 
 -- of a pair of an accepted description
-pub features_drawn : (m : Mechanism) (i : ℕ) → check_of m ≡ Accepted → i < m.pairs.count
+pub features_drawn : (m : Mechanism) (i : ℕ) → check_of m ≡ Ok tt → i < m.pairs.count
     → pair_features_at m.parts m.outlines (pair_at m.pairs i) ≡ pair_features m.parts m.outlines (pair_at m.pairs i)
 unfolding pair_features_at
 features_drawn m i e h = cond_yes _ _ (accepted-pair-drawn m e i h)
@@ -41,26 +40,26 @@ module _ (m : Mechanism) (q : Pose) (i : ℕ) {fits : Bool} {c : Checked} (f : f
   is_call = e ∙ ap (λ (b : Bool). call_checked m b named true) f
 
   -- where it accepts, there is such a pair
-  known : c ≡ Accepted → (check_of m ≡ Accepted) × (i < m.pairs.count)
+  known : c ≡ Ok tt → (check_of m ≡ Ok tt) × (i < m.pairs.count)
   known h =
       let k = call_accepted m fits named true (sym e ∙ h) in
       (k.0, ltb-true i m.pairs.count k.2)
 
-  pub pair-few : c ≡ Accepted → i < 16
+  pub pair-few : c ≡ Ok tt → i < 16
   pair-few h =
       let k = known h in
       let l = (accepted-few m k.0).pairs.count in
       let n = k.1 in
       omega arith
 
-  pub is-answered : {p : ContactPair} {x : PairFeatures} {r : Float} → c ≡ Accepted → p ≡ pair_at m.pairs i → x ≡ pair_features_at m.parts m.outlines p → r ≡ sides_overlap x q
-      → IsFloat r ≡ face_overlap_answer m q i
+  pub is-answered : {p : ContactPair} {x : PairFeatures} {r : Float} → c ≡ Ok tt → p ≡ pair_at m.pairs i → x ≡ pair_features_at m.parts m.outlines p → r ≡ sides_overlap x q
+      → Ok r ≡ face_overlap_answer m q i
   unfolding face_overlap_answer
   is-answered h u v w =
       let k = known h in
-      ap IsFloat (w ∙ ap (λ (x : PairFeatures). sides_overlap x q) (v ∙ ap (pair_features_at m.parts m.outlines) u ∙ features_drawn m i k.0 k.1))
+      ap Ok (w ∙ ap (λ (x : PairFeatures). sides_overlap x q) (v ∙ ap (pair_features_at m.parts m.outlines) u ∙ features_drawn m i k.0 k.1))
       ∙ ap (λ (x : Checked). answer_of x answer) (sym h ∙ is_call)
 
-  pub is-refused : {p : Problem} → c ≡ Refused p → NoFloat p ≡ face_overlap_answer m q i
+  pub is-refused : {p : Problem} → c ≡ Err p → Err p ≡ face_overlap_answer m q i
   unfolding face_overlap_answer
   is-refused h = ap (λ (x : Checked). answer_of x answer) (sym h ∙ is_call)

@@ -20,15 +20,15 @@ use Rattle.faces.specs.Faces.{along_of, reach_of, within_of, cut_of, over_of, pa
 -- the part of B's face from lo to hi: d is the deepest so far, no NaN, and stays none
 module _ (a0 n b0 b1 : Point) (lo hi d : Float) (k : is_nan d ≡ false) where
   -- there is no such part
-  pub within-left : lt hi lo ≡ true → (d ≡ within_of a0 n b0 b1 d lo hi) × (is_nan d ≡ false)
+  pub within_left : lt hi lo ≡ true → (d ≡ within_of a0 n b0 b1 d lo hi) × (is_nan d ≡ false)
   unfolding within_of
-  within-left h = (sym (cond_yes _ _ h), k)
+  within_left h = (sym (cond_yes _ _ h), k)
 
   -- x and y are how far its ends stand past A's line, f the deeper of d and x
-  pub within-taken : {x f y r : Float} → lt hi lo ≡ false → x ≡ reach_of a0 n b0 b1 lo → f ≡ cond (lt d x) x d → y ≡ reach_of a0 n b0 b1 hi → r ≡ cond (lt f y) y f
+  pub within_taken : {x f y r : Float} → lt hi lo ≡ false → x ≡ reach_of a0 n b0 b1 lo → f ≡ cond (lt d x) x d → y ≡ reach_of a0 n b0 b1 hi → r ≡ cond (lt f y) y f
       → (r ≡ within_of a0 n b0 b1 d lo hi) × (is_nan r ≡ false)
   unfolding within_of
-  within-taken {x} {f} {y} {r} h e g u v =
+  within_taken {x} {f} {y} {r} h e g u v =
       let p : f ≡ max_of d (reach_of a0 n b0 b1 lo) = g ∙ sym (max_numbers d x k) ∙ ap (max_of d) e in
       let z : is_nan f ≡ false = ap is_nan p ∙ max_number d (reach_of a0 n b0 b1 lo) k in
       let w : r ≡ max_of f y = v ∙ sym (max_numbers f y z) in
@@ -51,15 +51,15 @@ module _ (a0 a1 n b0 b1 : Point) (d : Float) {t0 t1 : Float} (p : t0 ≡ along_o
   end = (one_f ⊖ t0) ⊘ (t1 ⊖ t0)
 
   -- the part over A's face is taken
-  pub over-part : {u lo v hi r : Float} → differ ≡ true → u ≡ min_of start end → lo ≡ max_of zero_f u → v ≡ max_of start end → hi ≡ min_of one_f v → r ≡ within_of a0 n b0 b1 d lo hi
+  pub over_part : {u lo v hi r : Float} → differ ≡ true → u ≡ min_of start end → lo ≡ max_of zero_f u → v ≡ max_of start end → hi ≡ min_of one_f v → r ≡ within_of a0 n b0 b1 d lo hi
       → r ≡ over_of a0 a1 n b0 b1 d
-  over-part h e f g i w =
+  over_part h e f g i w =
       w ∙ ap₂ (within_of a0 n b0 b1 d) (f ∙ ap (max_of zero_f) e) (i ∙ ap (min_of one_f) g)
       ∙ sym (cond_yes _ _ (sym (not_zero (t1 ⊖ t0)) ∙ h)) ∙ is_cut
 
   -- it stands square to A's face, over it
-  pub over-whole : {r : Float} → differ ≡ false → (le zero_f t0 && le t0 one_f) ≡ true → r ≡ within_of a0 n b0 b1 d zero_f one_f → r ≡ over_of a0 a1 n b0 b1 d
-  over-whole h e w = w ∙ sym (cond_yes _ _ e) ∙ sym (cond_no _ _ (sym (not_zero (t1 ⊖ t0)) ∙ h)) ∙ is_cut
+  pub over_whole : {r : Float} → differ ≡ false → (le zero_f t0 && le t0 one_f) ≡ true → r ≡ within_of a0 n b0 b1 d zero_f one_f → r ≡ over_of a0 a1 n b0 b1 d
+  over_whole h e w = w ∙ sym (cond_yes _ _ e) ∙ sym (cond_no _ _ (sym (not_zero (t1 ⊖ t0)) ∙ h)) ∙ is_cut
 
   -- it stands square to A's face, beside it, or its places along it are no numbers
   pub over_none : differ ≡ false → (le zero_f t0 && le t0 one_f) ≡ false → d ≡ over_of a0 a1 n b0 b1 d

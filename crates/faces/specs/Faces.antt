@@ -1,5 +1,5 @@
 -- How far side B's drawn faces stand past side A's (contact/bearing.rs: `face_overlap`), in the Rust's order of operations. Definitions only.
-use Rattle.std.specs.Prelude.{ℕ, Bool, true, not, ◌&&◌, ◌||◌, cond, List, map, ltb, take, Float}
+use Rattle.std.specs.Prelude.{ℕ, Bool, true, not, ◌&&◌, ◌||◌, cond, List, map, ltb, take, Float, Result}
 use Rattle.std.specs.Float.Ieee.{lt, le, neg, is_nan}
 use Rattle.laws.specs.Lists.{foldl}
 use Rattle.ieee.specs.Consts.{zero_f, one_f}
@@ -12,7 +12,6 @@ use Rattle.geometry.specs.declared.signed.Face.{Face}
 use Rattle.mechanism.specs.Check.{call_checked, answer_of}
 use Rattle.mechanism.specs.Description.{pair_at}
 use Rattle.bodies.specs.Pose.{placement_at, rotate_of, world_of, pose_fits}
-use Rattle.mechanism.specs.declared.FloatAnswer.{FloatAnswer}
 use Rattle.mechanism.specs.declared.Mechanism.{Mechanism}
 use Rattle.bodies.specs.declared.pose.Placement.{Placement}
 use Rattle.bodies.specs.declared.pose.Pose.{Pose}
@@ -20,6 +19,7 @@ use Rattle.sides.specs.Contacts.{pair_features}
 use Rattle.sides.specs.declared.PlacedFace.{PlacedFace}
 use Rattle.sides.specs.declared.SideFeatures.{SideFeatures}
 use Rattle.sides.specs.declared.contacts.PairFeatures.{PairFeatures}
+use Rattle.bodies.specs.declared.Problem.{Problem}
 
 -- where p falls along the segment from a to b
 abbrev pub along_of : Point → Point → Point → Float
@@ -75,7 +75,7 @@ faces_in s = map face_of (take s.faces s.face)
 unfoldable pub sides_overlap : PairFeatures → Pose → Float
 sides_overlap p q = faces_overlap (faces_in p.a) (placement_at q p.a.body) (faces_in p.b) (placement_at q p.b.body)
 
-unfoldable pub face_overlap_answer : Mechanism → Pose → ℕ → FloatAnswer
+unfoldable pub face_overlap_answer : Mechanism → Pose → ℕ → Result Float Problem
 face_overlap_answer m q i =
     answer_of (call_checked m (pose_fits m.bodies q) (ltb i m.pairs.count) true) (sides_overlap (pair_features m.parts m.outlines (pair_at m.pairs i)) q)
 

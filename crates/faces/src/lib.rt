@@ -9,16 +9,16 @@ ghost use Rattle.faces.specs.Faces.{along_of, reach_of, within_of, over_of, past
 
 pub mod prepared;
 
+use bodies::Problem;
 use bodies::pose::{Placement, Pose, placement_at};
-use bodies::{Checked, Problem};
-use geometry::signed::{Face, dot, sub};
-use geometry::{Dir, Point};
+use geometry::Point;
+use geometry::signed::{dot, sub};
 use ieee::num::{choose, is_nan, max, min};
 use mechanism::check::call_checked;
 use mechanism::pair::ContactPair;
-use mechanism::{FloatAnswer, Mechanism, Pairs};
+use mechanism::{Mechanism, Pairs};
+use sides::SideFeatures;
 use sides::contacts::{PairFeatures, pair_features_at};
-use sides::{PlacedFace, SideFeatures};
 
 // Where the projection of p falls along the segment from a to b, 0 at its start and 1 at its end.
 pub fn along(p: Point, a: Point, b: Point) -> f64
@@ -39,6 +39,7 @@ fn reach(a0: Point, n: Point, b0: Point, b1: Point, s: f64) -> f64
 }
 
 // The deepest of `deepest` and the two ends lo and hi, where they are in order.
+#[tactic(auto, using(crate::proofs::Steps::within_left))]
 fn within(a0: Point, n: Point, b0: Point, b1: Point, lo: f64, hi: f64, deepest: f64) -> f64
     requires { is_nan deepest ≡ false }
     ensures { (result ≡ within_of a0 n b0 b1 deepest lo hi) × (is_nan result ≡ false) }
@@ -53,6 +54,7 @@ fn within(a0: Point, n: Point, b0: Point, b1: Point, lo: f64, hi: f64, deepest: 
 }
 
 // One face of B against A's face from a0 to a1.
+#[tactic(auto, using(crate::proofs::Steps::over_part, crate::proofs::Steps::over_whole, crate::proofs::Steps::over_none))]
 fn over(a0: Point, a1: Point, n: Point, b0: Point, b1: Point, deepest: f64) -> f64
     requires { is_nan deepest ≡ false }
     ensures { (result ≡ over_of a0 a1 n b0 b1 deepest) × (is_nan result ≡ false) }
@@ -77,7 +79,7 @@ fn over(a0: Point, a1: Point, n: Point, b0: Point, b1: Point, deepest: f64) -> f
 fn faces(s: SideFeatures) -> usize
     ensures { (result ≤ 12) × (take result s.face ≡ take s.faces s.face) }
 {
-    if s.faces < 12 { s.faces } else { 12 }
+    s.faces.min(12)
 }
 
 // All faces of B, placed, against A's face from a0 to a1.
@@ -85,16 +87,10 @@ fn past(a0: Point, a1: Point, n: Point, b: SideFeatures, place: Placement, deepe
     requires { is_nan deepest ≡ false }
     ensures { (result ≡ foldl (past_of a0 a1 n place) deepest (faces_in b)) × (is_nan result ≡ false) }
 {
-    let m = faces(b);
     let mut d = deepest;
-    let mut i: usize = 0;
-    while i < m {
-        let p = b.face[i];
-        let f = p.face;
-        i += 1;
-        let b0 = place.world(f.a);
-        let b1 = place.world(f.b);
-        d = over(a0, a1, n, b0, b1, d);
+    for i in 0..faces(b) {
+        let f = b.face[i].face;
+        d = over(a0, a1, n, place.world(f.a), place.world(f.b), d);
     }
     d
 }
@@ -110,32 +106,30 @@ fn is_long(e2: f64) -> bool
 fn faces_overlap(a: SideFeatures, pa: Placement, b: SideFeatures, pb: Placement) -> f64
     ensures { result ≡ faces_overlap (faces_in a) pa (faces_in b) pb }
 {
-    let m = faces(a);
     let mut deepest = 0.0;
-    let mut i: usize = 0;
-    while i < m {
-        let p = a.face[i];
-        let f = p.face;
-        i += 1;
+    for i in 0..faces(a) {
+        let f = a.face[i].face;
         let a0 = pa.world(f.a);
         let a1 = pa.world(f.b);
         let e = sub(a1, a0);
         if is_long(dot(e, e)) {
-            let v = f.normal.vector();
-            let n = pa.rotate(v);
-            deepest = past(a0, a1, n, b, pb, deepest);
+            deepest = past(a0, a1, pa.rotate(f.normal.vector()), b, pb, deepest);
         }
     }
     deepest
 }
 
 // The same of a pair's sides at a pose.
+#[tactic(auto, unfolding(crate::specs::Faces::sides_overlap))]
 pub fn sides_overlap(p: PairFeatures, q: Pose) -> f64
     ensures { result ≡ sides_overlap p q }
 {
-    let a = p.a;
-    let b = p.b;
-    faces_overlap(a, placement_at(q, a.body), b, placement_at(q, b.body))
+    faces_overlap(
+        p.a,
+        placement_at(q, p.a.body),
+        p.b,
+        placement_at(q, p.b.body),
+    )
 }
 
 fn pair_at(pairs: Pairs, i: usize) -> ContactPair
@@ -146,18 +140,12 @@ fn pair_at(pairs: Pairs, i: usize) -> ContactPair
 }
 
 // How far side B's drawn faces stand past side A's, for a pair of the description.
-pub fn face_overlap(m: Mechanism, q: Pose, pair: usize) -> FloatAnswer
+pub fn face_overlap(m: Mechanism, q: Pose, pair: usize) -> Result<f64, Problem>
     ensures { result ≡ face_overlap_answer m q pair }
 {
-    let b = m.bodies;
-    let pairs = m.pairs;
-    let c = call_checked(m, q.fits(b), pair < pairs.count, true);
-    match c {
-        Checked::Refused(p) => FloatAnswer::NoFloat(p),
-        Checked::Accepted => {
-            let ps = m.parts;
-            let o = m.outlines;
-            FloatAnswer::IsFloat(sides_overlap(pair_features_at(ps, o, pair_at(pairs, pair)), q))
-        }
-    }
+    call_checked(m, q.fits(m.bodies), pair < m.pairs.count, true)?;
+    Ok(sides_overlap(
+        pair_features_at(m.parts, m.outlines, pair_at(m.pairs, pair)),
+        q,
+    ))
 }

@@ -8,9 +8,9 @@ ghost use Rattle.faces.specs.Prepared.{face_overlap_in};
 
 use super::{is_long, over};
 use bodies::pose::{Placement, Pose, placement_at};
-use geometry::signed::{Face, dot, sub};
-use geometry::{Dir, Point};
-use strips::{FaceRow, SideFacts, SideRow, face_at, row_a, row_b, side_at};
+use geometry::Point;
+use geometry::signed::{dot, sub};
+use strips::{FaceRow, SideRow, face_at, row_a, row_b, side_at};
 
 // n faces of B from row `first` on, placed, against A's face from a0 to a1.
 fn past(
@@ -27,13 +27,9 @@ fn past(
     ensures { (result ≡ foldl (past_of a0 a1 normal place) deepest (list_in (face_at faces.now) n first)) × (is_nan result ≡ false) }
 {
     let mut d = deepest;
-    let mut i: usize = 0;
-    while i < n {
+    for i in 0..n {
         let f = face_at(faces, first + i);
-        i += 1;
-        let b0 = place.world(f.a);
-        let b1 = place.world(f.b);
-        d = over(a0, a1, normal, b0, b1, d);
+        d = over(a0, a1, normal, place.world(f.a), place.world(f.b), d);
     }
     d
 }
@@ -52,16 +48,13 @@ fn faces_overlap(
     ensures { result ≡ faces_overlap (list_in (face_at faces.now) n a) pa (list_in (face_at faces.now) m b) pb }
 {
     let mut deepest = 0.0;
-    let mut i: usize = 0;
-    while i < n {
+    for i in 0..n {
         let f = face_at(faces, a + i);
-        i += 1;
         let a0 = pa.world(f.a);
         let a1 = pa.world(f.b);
         let e = sub(a1, a0);
         if is_long(dot(e, e)) {
-            let v = f.normal.vector();
-            let w = pa.rotate(v);
+            let w = pa.rotate(f.normal.vector());
             deepest = past(a0, a1, w, faces, b, m, pb, deepest);
         }
     }
@@ -69,6 +62,7 @@ fn faces_overlap(
 }
 
 // How far the drawn faces of a pair's side B stand past those of its side A.
+#[tactic(auto, unfolding(crate::specs::Prepared::face_overlap_in))]
 pub fn face_overlap_in(faces: &[FaceRow], sides: &[SideRow], q: Pose, pair: usize) -> f64
     ensures { result ≡ face_overlap_in faces.now sides.now q pair }
 {

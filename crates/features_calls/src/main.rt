@@ -4,41 +4,16 @@
 // are the Rust's.
 #![tactic(auto)]
 
-ghost use Rattle.std.specs.Prelude.{◌≤◌};
-
-use bodies::{Checked, Problem};
-use geometry::signed::{Disc, Face};
-use geometry::{Dir, Point};
-use mechanism::Mechanism;
+use bodies::Problem;
+use geometry::Point;
 use mechanism::features::Piece;
-use sides::contacts::{Contacts, PairFeatures, with_contacts};
-use sides::{PlacedDisc, PlacedFace, PlacedPoint, SideFeatures};
+use sides::contacts::{Contacts, with_contacts};
+use sides::{PlacedDisc, PlacedFace, SideFeatures};
 use std::io;
-use std::io::{BufWriter, Read, Write};
-
-// A number of at most six digits, with one more digit after it.
-fn tens(v: usize, b: u8) -> usize
-    ensures { result ≤ 999999 }
-{
-    (v % 100000) * 10 + (b % 16 % 10) as usize
-}
-
-// The number that six digits say.
-fn length_of(d: [u8; 7]) -> usize {
-    tens(
-        tens(tens(tens(tens(tens(0, d[0]), d[1]), d[2]), d[3]), d[4]),
-        d[5],
-    )
-}
-
-fn number<W: Write>(out: &mut W, n: usize) -> io::Result<()> {
-    streams::print_decimal(out, n as u64)?;
-    streams::write_all(out, b",")
-}
+use std::io::{BufWriter, Write};
 
 fn float<W: Write>(out: &mut W, x: f64) -> io::Result<()> {
-    streams::print_hex(out, ieee::bits::pattern(x), 16)?;
-    streams::write_all(out, b",")
+    write!(out, "{:016x},", ieee::bits::pattern(x))
 }
 
 fn point<W: Write>(out: &mut W, p: Point) -> io::Result<()> {
@@ -46,176 +21,76 @@ fn point<W: Write>(out: &mut W, p: Point) -> io::Result<()> {
     float(out, p.y)
 }
 
-fn direction<W: Write>(out: &mut W, d: Dir) -> io::Result<()> {
-    float(out, d.x)?;
-    float(out, d.y)
-}
-
-fn named<W: Write>(out: &mut W, letter: &[u8], part: usize, seg: usize) -> io::Result<()> {
-    streams::write_all(out, letter)?;
-    streams::write_all(out, b",")?;
-    number(out, part)?;
-    number(out, seg)
-}
-
 fn print_piece<W: Write>(out: &mut W, p: Piece) -> io::Result<()> {
     match p {
-        Piece::Segment { part, seg } => named(out, b"S", part, seg),
-        Piece::Arc { part, seg } => named(out, b"A", part, seg),
-        Piece::Vertex { part, seg } => named(out, b"V", part, seg),
-        Piece::Center { part } => named(out, b"C", part, 0),
+        Piece::Segment { part, seg } => write!(out, "S,{part},{seg},"),
+        Piece::Arc { part, seg } => write!(out, "A,{part},{seg},"),
+        Piece::Vertex { part, seg } => write!(out, "V,{part},{seg},"),
+        Piece::Center { part } => write!(out, "C,{part},0,"),
     }
 }
 
-fn print_face<W: Write>(out: &mut W, x: PlacedFace) -> io::Result<()> {
-    let p = x.piece;
-    print_piece(out, p)?;
-    let f = x.face;
-    point(out, f.a)?;
-    point(out, f.b)?;
-    direction(out, f.normal)?;
-    streams::write_all(out, b"\n")
+fn print_face<W: Write>(out: &mut W, f: PlacedFace) -> io::Result<()> {
+    print_piece(out, f.piece)?;
+    point(out, f.face.a)?;
+    point(out, f.face.b)?;
+    point(out, f.face.normal.vector())?;
+    writeln!(out)
 }
 
-fn print_disc<W: Write>(out: &mut W, x: PlacedDisc) -> io::Result<()> {
-    let p = x.piece;
-    print_piece(out, p)?;
-    let d = x.disc;
-    point(out, d.center)?;
-    float(out, d.radius)?;
-    direction(out, d.from)?;
-    direction(out, d.to)?;
-    streams::write_all(out, b"\n")
-}
-
-fn print_center<W: Write>(out: &mut W, x: PlacedPoint) -> io::Result<()> {
-    let p = x.piece;
-    print_piece(out, p)?;
-    point(out, x.point)?;
-    streams::write_all(out, b"\n")
-}
-
-fn print_faces<W: Write>(out: &mut W, s: SideFeatures) -> io::Result<()> {
-    let n = s.faces;
-    for i in 0..12 {
-        if i < n {
-            let f = s.face[i];
-            print_face(out, f)?;
-        }
-    }
-    Ok(())
-}
-
-fn print_discs<W: Write>(out: &mut W, s: SideFeatures) -> io::Result<()> {
-    let n = s.discs;
-    for i in 0..28 {
-        if i < n {
-            let d = s.disc[i];
-            print_disc(out, d)?;
-        }
-    }
-    Ok(())
+fn print_disc<W: Write>(out: &mut W, d: PlacedDisc) -> io::Result<()> {
+    print_piece(out, d.piece)?;
+    point(out, d.disc.center)?;
+    float(out, d.disc.radius)?;
+    point(out, d.disc.from.vector())?;
+    point(out, d.disc.to.vector())?;
+    writeln!(out)
 }
 
 fn print_side<W: Write>(out: &mut W, s: SideFeatures) -> io::Result<()> {
-    streams::write_all(out, b"side,")?;
-    number(out, s.body)?;
-    number(out, s.faces)?;
-    streams::print_decimal(out, s.discs as u64)?;
-    streams::write_all(out, b"\n")?;
-    print_faces(out, s)?;
-    print_discs(out, s)?;
-    let c = s.center;
-    print_center(out, c)
-}
-
-fn print_pair<W: Write>(out: &mut W, p: PairFeatures) -> io::Result<()> {
-    let a = p.a;
-    let b = p.b;
-    print_side(out, a)?;
-    print_side(out, b)
-}
-
-fn print_pairs<W: Write>(out: &mut W, c: Contacts) -> io::Result<()> {
-    let n = c.count;
-    for i in 0..16 {
-        if i < n {
-            let p = c.pair[i];
-            print_pair(out, p)?;
-        }
+    writeln!(out, "side,{},{},{}", s.body, s.faces, s.discs)?;
+    for f in s.face.iter().take(s.faces) {
+        print_face(out, *f)?;
     }
-    Ok(())
+    for d in s.disc.iter().take(s.discs) {
+        print_disc(out, *d)?;
+    }
+    print_piece(out, s.center.piece)?;
+    point(out, s.center.point)?;
+    writeln!(out)
 }
 
 fn print_contacts<W: Write>(out: &mut W, c: Contacts) -> io::Result<()> {
-    streams::write_all(out, b"accepted,")?;
-    streams::print_decimal(out, c.count as u64)?;
-    streams::write_all(out, b"\n")?;
-    print_pairs(out, c)
-}
-
-fn print_problem<W: Write>(out: &mut W, p: Problem) -> io::Result<()> {
-    streams::write_all(out, b"X,")?;
-    streams::print_decimal(out, p.number() as u64)?;
-    streams::write_all(out, b",")?;
-    streams::print_decimal(out, p.place() as u64)?;
-    streams::write_all(out, b"\n")
-}
-
-fn print_features<W: Write>(out: &mut W, m: Mechanism) -> io::Result<()> {
-    let found = with_contacts(m);
-    let c = found.checked;
-    match c {
-        Checked::Accepted => print_contacts(out, found),
-        Checked::Refused(p) => print_problem(out, p),
+    writeln!(out, "accepted,{}", c.count)?;
+    for p in c.pair.iter().take(c.count) {
+        print_side(out, p.a)?;
+        print_side(out, p.b)?;
     }
+    Ok(())
+}
+
+// The features of the description that a text gives.
+fn contacts_of(text: &[u8]) -> Result<Contacts, Problem> {
+    with_contacts(sheet::read(text)?.mechanism)
 }
 
 fn answer<W: Write>(out: &mut W, text: &[u8]) -> io::Result<()> {
-    let s = sheet::read(text);
-    let m = s.mechanism;
-    let c = s.checked;
-    match c {
-        Checked::Accepted => print_features(out, m),
-        Checked::Refused(p) => print_problem(out, p),
+    match contacts_of(text) {
+        Ok(c) => print_contacts(out, c),
+        Err(p) => writeln!(out, "{p}"),
     }
-}
-
-// Reads n bytes, if there is room for them.
-fn fill<R: Read>(input: &mut R, buf: &mut [u8], n: usize) -> io::Result<()> {
-    if n <= buf.len() {
-        streams::read_full(input, &mut buf[..n])?;
-    }
-    Ok(())
-}
-
-// Answers the text of the first n bytes.
-fn answer_first<W: Write>(out: &mut W, buf: &[u8], n: usize) -> io::Result<()> {
-    if n <= buf.len() {
-        answer(out, &buf[..n])?;
-    }
-    Ok(())
-}
-
-// Reads and answers a text; false at the end of the input.
-fn next<R: Read, W: Write>(input: &mut R, out: &mut W) -> io::Result<bool> {
-    let mut head = [0u8; 7];
-    if streams::read_full(input, &mut head)? < 7 {
-        return Ok(false);
-    }
-    let n = length_of(head);
-    let mut buf = [0u8; 65537];
-    fill(input, &mut buf, n)?;
-    answer_first(out, &buf, n)?;
-    Ok(true)
 }
 
 fn main(rt: HostRuntime) -> io::Result<()> {
     let mut input = rt.stdin();
     let mut out = BufWriter::new(rt.alloc(), rt.stdout())?;
+    let mut buf = [0u8; 65537];
     for _ in 0..1000000 {
-        if !next(&mut input, &mut out)? {
+        let Some(n) = streams::next_text(&mut input, &mut buf)? else {
             break;
+        };
+        if let Some(text) = buf.get(..n) {
+            answer(&mut out, text)?;
         }
     }
     out.flush()

@@ -8,19 +8,14 @@ use Rattle.ieee.specs.Num.{finite}
 use Rattle.ieee.specs.Operators.{◌⊕◌, ◌⊗◌, ◌⊘◌}
 use Rattle.ieee.specs.Root.{root_of}
 use Rattle.ieee.proofs.Bounds.{length-again, finite-of, over_zero}
-use Rattle.geometry.specs.Geometry.{dir_of, dir_or}
+use Rattle.geometry.specs.Geometry.{dir_of}
 use Rattle.geometry.specs.declared.Dir.{Dir}
-use Rattle.geometry.specs.declared.MaybeDir.{MaybeDir}
-use Rattle.geometry.specs.declared.MaybeDir.TheVariants.{SomeDir, NoDir}
-
-abbrev is_one : MaybeDir → Bool
-is_one (SomeDir d) = true
-is_one NoDir = false
+use Rattle.std.proofs.Common.{Option, Some, None, is_some, unwrap_or}
 
 -- a direction was answered: the test passed, and it is the one that stands there
-answered : (b : Bool) (c d : Dir) → cond b (SomeDir c) NoDir ≡ SomeDir d → (b ≡ true) × (c ≡ d)
-answered true c d h = (refl, ap (λ (m : MaybeDir). dir_or m c) h)
-answered false c d h = absurd (false≢true (ap is_one h))
+answered : (b : Bool) (c d : Dir) → cond b (Some c) None ≡ Some d → (b ≡ true) × (c ≡ d)
+answered true c d h = (refl, ap (λ (m : Option Dir). unwrap_or m c) h)
+answered false c d h = absurd (false≢true (ap is_some h))
 
 abbrev length_of : Float → Float → Float
 length_of x y = root_of (x ⊗ x ⊕ y ⊗ y)
@@ -28,11 +23,11 @@ length_of x y = root_of (x ⊗ x ⊕ y ⊗ y)
 abbrev over : Float → Float → Dir
 over x y = record { x = x ⊘ length_of x y; y = y ⊘ length_of x y }
 
-pub dir_again : (x y : Float) (d : Dir) → dir_of x y ≡ SomeDir d → (e : Dir) × (dir_of d.x d.y ≡ SomeDir e)
+pub dir_again : (x y : Float) (d : Dir) → dir_of x y ≡ Some d → (e : Dir) × (dir_of d.x d.y ≡ Some e)
 unfolding dir_of
 dir_again x y d h =
     let l = length_of x y in
     let a = answered (finite l && lt zero_f l) (over x y) d h in
     let t = both (finite l) (lt zero_f l) a.0 in
-    subst (λ (c : Dir). (e : Dir) × (dir_of c.x c.y ≡ SomeDir e)) a.1
-    (over (x ⊘ l) (y ⊘ l), cond_yes (SomeDir (over (x ⊘ l) (y ⊘ l))) NoDir (over_zero (length_of (x ⊘ l) (y ⊘ l)) (length-again x y (finite-of l t.0) (holds t.1))))
+    subst (λ (c : Dir). (e : Dir) × (dir_of c.x c.y ≡ Some e)) a.1
+    (over (x ⊘ l) (y ⊘ l), cond_yes (Some (over (x ⊘ l) (y ⊘ l))) None (over_zero (length_of (x ⊘ l) (y ⊘ l)) (length-again x y (finite-of l t.0) (holds t.1))))

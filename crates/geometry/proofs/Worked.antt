@@ -1,6 +1,6 @@
 -- Document 01's corners of geometry/mod.rs and geometry/signed.rs, computed from the definitions. Assumes nothing.
 use mathlib.Core.Path.{◌≡◌, refl}
-use mathlib.Core.Bool.{Bool, true, false}
+use mathlib.Core.Bool.{false}
 use Prim.Native.Nat.{ℕ}
 use lib.Ieee.{Float, binary64, of_bits, add, sub, mul, div, lt, le, neg}
 use Rattle.ieee.specs.Consts.{zero_f, one_f, two_f, half_f}
@@ -9,11 +9,9 @@ use Rattle.geometry.specs.Geometry.{dir_of, halfway_of}
 use Rattle.geometry.specs.Signed.{along_of, center_on_face, disc_on_disc}
 use Rattle.geometry.specs.declared.Point.{Point}
 use Rattle.geometry.specs.declared.Dir.{Dir}
-use Rattle.geometry.specs.declared.MaybeDir.TheVariants.{NoDir}
 use Rattle.geometry.specs.declared.signed.Disc.{Disc}
 use Rattle.geometry.specs.declared.signed.Face.{Face}
-use Rattle.geometry.specs.declared.signed.MaybeProximity.{MaybeProximity}
-use Rattle.geometry.specs.declared.signed.MaybeProximity.TheVariants.{SomeProximity, NoProximity}
+use Rattle.std.proofs.Common.{Some, None, is_some}
 
 abbrev bits : ℕ → Float
 bits b = of_bits binary64 b
@@ -40,12 +38,8 @@ top = record { a = at one_f one_f; b = at zero_f one_f; normal = up }
 abbrev corner : Float → Float → Disc
 corner x y = record { center = at x y; radius = zero_f; from = left; to = right }
 
-abbrev reads : MaybeProximity → Bool
-reads (SomeProximity p) = true
-reads NoProximity = false
-
 -- ---- corners
-tiny : dir_of (bits 0x1a70_0000_0000_0000) zero_f ≡ NoDir
+tiny : dir_of (bits 0x1a70_0000_0000_0000) zero_f ≡ None
 unfolding dir_of root_of of_bits add mul div lt
 tiny = refl
 
@@ -67,10 +61,10 @@ unfolding halfway_of dir_of root_of of_bits add sub mul div lt neg
 halfway_over = refl
 
 -- coincident centres give no reading; a negative radius is taken as it is
-coincident : reads (disc_on_disc (corner half_f two_f) (corner half_f two_f)) ≡ false
+coincident : is_some (disc_on_disc (corner half_f two_f) (corner half_f two_f)) ≡ false
 unfolding disc_on_disc dir_of root_of of_bits add sub mul div lt neg
 coincident = refl
 
-center_reads : center_on_face (at half_f two_f) top ≡ SomeProximity (record { gap = one_f; normal = to (neg zero_f) (neg one_f); point = at half_f (bits 0x3ff8_0000_0000_0000) })
+center_reads : center_on_face (at half_f two_f) top ≡ Some (record { gap = one_f; normal = to (neg zero_f) (neg one_f); point = at half_f (bits 0x3ff8_0000_0000_0000) })
 unfolding center_on_face along_of dir_of root_of of_bits add sub mul div lt le neg
 center_reads = refl

@@ -1,5 +1,5 @@
 -- geometry/mod.rs, operation by operation. Definitions only.
-use Rattle.std.specs.Prelude.{cond, ◌&&◌, List, [], ◌∷◌, map, Float}
+use Rattle.std.specs.Prelude.{cond, ◌&&◌, List, [], ◌∷◌, map, Float, Option, Some, None, unwrap_or}
 use Rattle.std.specs.Float.Ieee.{lt, neg}
 use Rattle.ieee.specs.Operators.{◌⊕◌, ◌⊖◌, ◌⊗◌, ◌⊘◌}
 use Rattle.ieee.specs.Consts.{zero_f}
@@ -7,8 +7,6 @@ use Rattle.ieee.specs.Num.{finite}
 use Rattle.ieee.specs.Root.{root_of}
 use Rattle.geometry.specs.declared.Point.{Point}
 use Rattle.geometry.specs.declared.Dir.{Dir}
-use Rattle.geometry.specs.declared.MaybeDir.{MaybeDir}
-use Rattle.geometry.specs.declared.MaybeDir.TheVariants.{SomeDir, NoDir}
 use Rattle.geometry.specs.declared.Seg.{Seg}
 use Rattle.geometry.specs.declared.Seg.TheVariants.{Line, Arc}
 use Rattle.geometry.specs.declared.Drawn.{Drawn}
@@ -18,16 +16,11 @@ abbrev pub vector_of : Dir → Point
 vector_of d = record { x = d.x; y = d.y }
 
 -- (x, y) over its length, where that is finite and above zero
-abbrev pub over_length : Float → Float → Float → MaybeDir
-over_length x y length = cond (finite length && lt zero_f length) (SomeDir (record { x = x ⊘ length; y = y ⊘ length })) NoDir
+abbrev pub over_length : Float → Float → Float → Option Dir
+over_length x y length = cond (finite length && lt zero_f length) (Some (record { x = x ⊘ length; y = y ⊘ length })) None
 
-unfoldable pub dir_of : Float → Float → MaybeDir
+unfoldable pub dir_of : Float → Float → Option Dir
 dir_of x y = over_length x y (root_of (x ⊗ x ⊕ y ⊗ y))
-
--- unwrap_or
-abbrev pub dir_or : MaybeDir → Dir → Dir
-dir_or (SomeDir d) other = d
-dir_or NoDir other = other
 
 -- Under a half turn the normalized sum, over it its opposite, at a half turn the left quarter turn; equal directions are halfway themselves.
 unfoldable pub halfway_of : Dir → Dir → Dir
@@ -36,8 +29,8 @@ halfway_of d to =
     let dot = d.x ⊗ to.x ⊕ d.y ⊗ to.y in
     let sx = d.x ⊕ to.x in
     let sy = d.y ⊕ to.y in
-    cond (lt zero_f cross) (dir_or (dir_of sx sy) d)
-    (cond (lt cross zero_f) (dir_or (dir_of (neg sx) (neg sy)) d)
+    cond (lt zero_f cross) (unwrap_or (dir_of sx sy) d)
+    (cond (lt cross zero_f) (unwrap_or (dir_of (neg sx) (neg sy)) d)
     (cond (lt dot zero_f) (record { x = neg d.y; y = d.x }) d))
 
 -- ---- Seg

@@ -2,7 +2,7 @@
 #![tactic(auto)]
 
 ghost use Rattle.std.specs.Prelude.{◌≡◌};
-ghost use Rattle.geometry.specs.Geometry.{dir_of, dir_or, vector_of, halfway_of, on_circle, start_of, end_of, drawn_of};
+ghost use Rattle.geometry.specs.Geometry.{dir_of, vector_of, halfway_of, on_circle, start_of, end_of, drawn_of};
 
 pub mod signed;
 
@@ -27,13 +27,6 @@ pub struct Dir {
     pub y: f64,
 }
 
-// What `Dir::new` answers.
-#[derive(Clone, Copy)]
-pub enum MaybeDir {
-    SomeDir(Dir),
-    NoDir,
-}
-
 impl Dir {
     pub const X: Self = Self { x: 1.0, y: 0.0 };
 
@@ -44,17 +37,18 @@ impl Dir {
     pub const NEG_Y: Self = Self { x: 0.0, y: -1.0 };
 
     // The direction of (x, y), where its computed length is finite and above zero.
-    pub fn new(x: f64, y: f64) -> MaybeDir
+    #[tactic(auto, unfolding(crate::specs::Geometry::dir_of))]
+    pub fn new(x: f64, y: f64) -> Option<Dir>
         ensures { result ≡ dir_of x y }
     {
         let length = ieee::root::root(x * x + y * y);
         if ieee::num::is_finite(length) & (0.0 < length) {
-            MaybeDir::SomeDir(Dir {
+            Some(Dir {
                 x: x / length,
                 y: y / length,
             })
         } else {
-            MaybeDir::NoDir
+            None
         }
     }
 
@@ -68,6 +62,7 @@ impl Dir {
     }
 
     // The direction halfway on a counter-clockwise turn from self to `to`.
+    #[tactic(auto, unfolding(crate::specs::Geometry::halfway_of))]
     pub fn halfway_to(self, to: Dir) -> Dir
         ensures { result ≡ halfway_of self to }
     {
@@ -76,10 +71,10 @@ impl Dir {
         let sx = self.x + to.x;
         let sy = self.y + to.y;
         if 0.0 < cross {
-            return dir_or(Dir::new(sx, sy), self);
+            return Dir::new(sx, sy).unwrap_or(self);
         }
         if cross < 0.0 {
-            return dir_or(Dir::new(-sx, -sy), self);
+            return Dir::new(-sx, -sy).unwrap_or(self);
         }
         if dot < 0.0 {
             return Dir {
@@ -88,16 +83,6 @@ impl Dir {
             };
         }
         self
-    }
-}
-
-// The direction found, or `other` where there is none.
-pub fn dir_or(found: MaybeDir, other: Dir) -> Dir
-    ensures { result ≡ dir_or found other }
-{
-    match found {
-        MaybeDir::SomeDir(d) => d,
-        MaybeDir::NoDir => other,
     }
 }
 
@@ -133,44 +118,31 @@ pub struct Drawn {
     pub points: [Point; 8],
 }
 
-// The two points that a segment runs between.
-#[derive(Clone, Copy)]
-struct Ends {
-    start: Point,
-    end: Point,
-}
-
-// A line's two points, or the two points of an arc's circle.
-fn ends_of(s: Seg) -> Ends
-    ensures { (result.start ≡ start_of s) × (result.end ≡ end_of s) }
-{
-    match s {
-        Seg::Line { a, b } => Ends { start: a, end: b },
-        Seg::Arc { c, r, from, to } => Ends {
-            start: on_circle(c, r, from),
-            end: on_circle(c, r, to),
-        },
-    }
-}
-
 impl Seg {
     pub fn start(self) -> Point
         ensures { result ≡ start_of self }
     {
-        ends_of(self).start
+        match self {
+            Seg::Line { a, .. } => a,
+            Seg::Arc { c, r, from, .. } => on_circle(c, r, from),
+        }
     }
 
     pub fn end(self) -> Point
         ensures { result ≡ end_of self }
     {
-        ends_of(self).end
+        match self {
+            Seg::Line { b, .. } => b,
+            Seg::Arc { c, r, to, .. } => on_circle(c, r, to),
+        }
     }
 
+    #[tactic(auto, unfolding(crate::specs::Geometry::finer, crate::specs::Geometry::popped))]
     pub fn drawn(self) -> Drawn
         ensures { result ≡ drawn_of self }
     {
         match self {
-            Seg::Line { a, b: _ } => Drawn {
+            Seg::Line { a, .. } => Drawn {
                 count: 1,
                 points: [a; 8],
             },

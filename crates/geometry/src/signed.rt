@@ -2,7 +2,7 @@
 ghost use Rattle.std.specs.Prelude.{◌≡◌};
 ghost use Rattle.geometry.specs.Signed.{sub_of, dot_of, cross_of, opposite, in_sector, along_of, on_span, disc_on_face, disc_on_disc, center_on_face, reversed_of, on_a, on_b};
 
-use crate::{Dir, MaybeDir, Point, dir_or};
+use crate::{Dir, Point};
 
 // A disc: its centre, its radius, and the directions that its boundary covers, counter-clockwise from `from` to `to`.
 #[derive(Clone, Copy)]
@@ -27,19 +27,6 @@ pub struct Proximity {
     pub gap: f64,
     pub normal: Dir,
     pub point: Point,
-}
-
-#[derive(Clone, Copy)]
-pub enum MaybeProximity {
-    SomeProximity(Proximity),
-    NoProximity,
-}
-
-// Where a point falls along a face.
-#[derive(Clone, Copy)]
-pub enum Position {
-    At(f64),
-    NoLength,
 }
 
 // 8 * 2^-52
@@ -74,6 +61,7 @@ pub fn turned_round(n: Dir) -> Point
 }
 
 // Whether the unit vector u lies in the sector from `from` counter-clockwise to `to`, its boundary included within SECTOR_SLACK.
+#[tactic(auto, unfolding(crate::specs::Signed::in_sector))]
 pub fn in_sector(u: Point, from: Dir, to: Dir) -> bool
     ensures { result ≡ in_sector u from to }
 {
@@ -95,124 +83,102 @@ pub fn in_sector(u: Point, from: Dir, to: Dir) -> bool
 }
 
 // Where c falls along the face, 0 at its start and 1 at its end.
-pub fn along(c: Point, face: Face) -> Position
+#[tactic(auto, unfolding(crate::specs::Signed::along_of))]
+pub fn along(c: Point, face: Face) -> Option<f64>
     ensures { result ≡ along_of c face }
 {
     let edge = sub(face.b, face.a);
     let len2 = dot(edge, edge);
     if (0.0 < len2) & ieee::num::is_finite(len2) {
-        Position::At(dot(sub(c, face.a), edge) / len2)
+        Some(dot(sub(c, face.a), edge) / len2)
     } else {
-        Position::NoLength
+        None
     }
 }
 
 // Whether a position lies from 0 to 1.
-fn on_span(p: Position) -> bool
+fn on_span(p: Option<f64>) -> bool
     ensures { result ≡ on_span p }
 {
-    match p {
-        Position::At(t) => (0.0 <= t) & (t <= 1.0),
-        Position::NoLength => false,
-    }
+    p.is_some_and(|t| (0.0 <= t) & (t <= 1.0))
 }
 
 // A disc of side A against a face of side B.
-pub fn disc_on_face(disc: Disc, face: Face) -> MaybeProximity
+#[tactic(auto, unfolding(crate::specs::Signed::disc_on_face))]
+pub fn disc_on_face(disc: Disc, face: Face) -> Option<Proximity>
     ensures { result ≡ disc_on_face disc face }
 {
     let c = disc.center;
-    let normal = face.normal;
-    if on_span(along(c, face)) {
-        if in_sector(turned_round(normal), disc.from, disc.to) {
-            let n = normal.vector();
-            let gap = dot(sub(c, face.a), n) - disc.radius;
-            let back = disc.radius + 0.5 * gap;
-            MaybeProximity::SomeProximity(Proximity {
-                gap,
-                normal,
-                point: Point {
-                    x: c.x - back * n.x,
-                    y: c.y - back * n.y,
-                },
-            })
-        } else {
-            MaybeProximity::NoProximity
-        }
-    } else {
-        MaybeProximity::NoProximity
+    let n = face.normal.vector();
+    if !on_span(along(c, face)) || !in_sector(turned_round(face.normal), disc.from, disc.to) {
+        return None;
     }
+    let gap = dot(sub(c, face.a), n) - disc.radius;
+    let back = disc.radius + 0.5 * gap;
+    Some(Proximity {
+        gap,
+        normal: face.normal,
+        point: Point {
+            x: c.x - back * n.x,
+            y: c.y - back * n.y,
+        },
+    })
 }
 
 // A disc of side A against a disc of side B.
-pub fn disc_on_disc(a: Disc, b: Disc) -> MaybeProximity
+#[tactic(auto, unfolding(crate::specs::Signed::disc_on_disc))]
+pub fn disc_on_disc(a: Disc, b: Disc) -> Option<Proximity>
     ensures { result ≡ disc_on_disc a b }
 {
     let d = sub(a.center, b.center);
-    let found = Dir::new(d.x, d.y);
-    let MaybeDir::SomeDir(normal) = found else {
-        return MaybeProximity::NoProximity;
-    };
-    if in_sector(turned_round(normal), a.from, a.to) {
-        if in_sector(normal.vector(), b.from, b.to) {
-            let c = b.center;
-            let gap = ieee::root::root(dot(d, d)) - a.radius - b.radius;
-            let out = b.radius + 0.5 * gap;
-            MaybeProximity::SomeProximity(Proximity {
-                gap,
-                normal,
-                point: Point {
-                    x: c.x + out * normal.x,
-                    y: c.y + out * normal.y,
-                },
-            })
-        } else {
-            MaybeProximity::NoProximity
-        }
-    } else {
-        MaybeProximity::NoProximity
+    let normal = Dir::new(d.x, d.y)?;
+    if !in_sector(turned_round(normal), a.from, a.to) || !in_sector(normal.vector(), b.from, b.to) {
+        return None;
     }
+    let gap = ieee::root::root(dot(d, d)) - a.radius - b.radius;
+    let out = b.radius + 0.5 * gap;
+    Some(Proximity {
+        gap,
+        normal,
+        point: Point {
+            x: b.center.x + out * normal.x,
+            y: b.center.y + out * normal.y,
+        },
+    })
 }
 
 // The centre of a face of side B against a face of side A.
-pub fn center_on_face(center: Point, face: Face) -> MaybeProximity
+#[tactic(auto, unfolding(crate::specs::Signed::center_on_face))]
+pub fn center_on_face(center: Point, face: Face) -> Option<Proximity>
     ensures { result ≡ center_on_face center face }
 {
-    if on_span(along(center, face)) {
-        let n = face.normal.vector();
-        let found = Dir::new(-n.x, -n.y);
-        let MaybeDir::SomeDir(normal) = found else {
-            return MaybeProximity::NoProximity;
-        };
-        let gap = dot(sub(center, face.a), n);
-        let half = 0.5 * gap;
-        MaybeProximity::SomeProximity(Proximity {
-            gap,
-            normal,
-            point: Point {
-                x: center.x - half * n.x,
-                y: center.y - half * n.y,
-            },
-        })
-    } else {
-        MaybeProximity::NoProximity
+    if !on_span(along(center, face)) {
+        return None;
     }
+    let n = face.normal.vector();
+    let normal = Dir::new(-n.x, -n.y)?;
+    let gap = dot(sub(center, face.a), n);
+    let half = 0.5 * gap;
+    Some(Proximity {
+        gap,
+        normal,
+        point: Point {
+            x: center.x - half * n.x,
+            y: center.y - half * n.y,
+        },
+    })
 }
 
 impl Proximity {
     // The same meeting with the two sides exchanged.
+    #[tactic(auto, unfolding(crate::specs::Signed::reversed_of))]
     pub fn reversed(self) -> Proximity
         ensures { result ≡ reversed_of self }
     {
         let n = self.normal;
-        let point = self.point;
-        let x = -n.x;
-        let y = -n.y;
-        let back = dir_or(Dir::new(x, y), n);
         Proximity {
-            gap: self.gap,
-            normal: back,
-            point,
+            normal: Dir::new(-n.x, -n.y).unwrap_or(n),
+            ..self
         }
     }
 

@@ -15,13 +15,12 @@ use Rattle.laws.proofs.Choice.{both, cond_yes, cond_no}
 use Rattle.laws.proofs.Fill.{length-filled}
 use Rattle.laws.proofs.Writing.{sets-append}
 use Rattle.ieee.specs.Consts.{zero_f}
-use Rattle.bodies.specs.declared.Checked.TheVariants.{Accepted, Refused}
 use Rattle.bodies.specs.declared.Problem.TheVariants.{NoSuchThing}
 use Rattle.governing.specs.Governing.{row_there, row_entries}
+use Rattle.std.proofs.Common.{Ok, Err}
 
 -- ---- Of the c entries from `at` on the first k are copied.
 pub record Copied (entries : List Float) (c at : ℕ) (entry : List Float) (k : ℕ) : Type 0 where
-  pub far : k ≤ c
   pub few : c ≤ 16
   pub room : at + c ≤ length entries
   pub held : entry ≡ filled 16 zero_f (take k (drop at entries))
@@ -36,14 +35,14 @@ row_room entries c n i e =
 pub copied_start : (entries : List Float) (c n i : ℕ) → row_there (length entries) c n i ≡ true → Copied entries c (i * c) (replicate 16 zero_f) 0
 copied_start entries c n i e =
     let r = row_room (length entries) c n i e in
-    record { far = omega arith; few = r.0; room = r.1; held = refl }
+    record { few = r.0; room = r.1; held = refl }
 
 module _ {entries : List Float} {c at : ℕ} {entry : List Float} {k : ℕ} (w : Copied entries c at entry k) where
   pub copied_long : length entry ≡ 16
   copied_long = ap length w.held ∙ length-filled 16 zero_f (take k (drop at entries))
 
   pub copied_more : k < c → Copied entries c at (set entry k (get_or entries (at + k) nan)) (k + 1)
-  copied_more h = record { far = omega arith; few = w.few; room = w.room; held = more }
+  copied_more h = record { few = w.few; room = w.room; held = more }
     where
       l : List Float
       l = drop at entries
@@ -63,20 +62,15 @@ module _ {entries : List Float} {c at : ℕ} {entry : List Float} {k : ℕ} (w :
           ∙ ap (filled 16 zero_f) (sym (take-suc l k nan below))
           ∙ ap (λ (j : ℕ). filled 16 zero_f (take j l)) (sym (add-one k))
 
-  pub copied_ends : c ≤ k → entry ≡ filled 16 zero_f (take c (drop at entries))
-  copied_ends h = let f = w.far in let e : k ≡ c = omega arith in w.held ∙ ap (λ (j : ℕ). filled 16 zero_f (take j (drop at entries))) e
+  pub copied_ends : k ≡ c → entry ≡ filled 16 zero_f (take c (drop at entries))
+  copied_ends e = w.held ∙ ap (λ (j : ℕ). filled 16 zero_f (take j (drop at entries))) e
 
 -- ---- the answer
-pub no_row-is : row_entries [] 17 0 0 ≡ record { checked = Refused NoSuchThing; count = 0; entry = replicate 16 zero_f }
-unfolding row_entries
-no_row-is = refl
-
 module _ (entries : List Float) (c n i : ℕ) where
-  pub row_is : row_there (length entries) c n i ≡ true
-      → row_entries entries c n i ≡ record { checked = Accepted; count = c; entry = filled 16 zero_f (take c (drop (i * c) entries)) }
+  pub entries_there : row_there (length entries) c n i ≡ true → row_entries entries c n i ≡ Ok (record { count = c; entry = filled 16 zero_f (take c (drop (i * c) entries)) })
   unfolding row_entries
-  row_is e = cond_yes _ _ e
+  entries_there e = cond_yes _ _ e
 
-  pub no_row : row_there (length entries) c n i ≡ false → row_entries [] 17 0 0 ≡ row_entries entries c n i
+  pub no_row : row_there (length entries) c n i ≡ false → row_entries entries c n i ≡ Err NoSuchThing
   unfolding row_entries
-  no_row e = sym (cond_no _ _ e)
+  no_row e = cond_no _ _ e

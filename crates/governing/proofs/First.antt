@@ -12,9 +12,8 @@ use Rattle.laws.specs.Loops.{fold_in}
 use Rattle.laws.specs.Floats.{Numeric}
 use Rattle.laws.proofs.Choice.{both, holds, and_yes}
 use Rattle.laws.proofs.Order.{lt_right, lt_trans, eq-lt, lt_asym}
-use Rattle.governing.specs.declared.MaybeRow.{MaybeRow}
-use Rattle.governing.specs.declared.MaybeRow.TheVariants.{SomeRow, NoRow}
 use Rattle.governing.specs.Governing.{least_of, governing_of, Governs, Governing}
+use Rattle.std.proofs.Common.{Option, Some, None}
 
 nan_not_numeric : (x : Float) → x ≡ nan → Numeric x → ⊥
 unfolding is_nan
@@ -26,7 +25,7 @@ up_to P s a f j l = ⊎_elim (λ (q : j ≡ s). subst P (sym q) a) (λ (l' : j <
 
 module _ (pair : ℕ → ℕ) (gap : ℕ → Float) (p : ℕ) where
   -- no record of the pair before s
-  from-none : (s : ℕ) → Governing pair gap s p NoRow → (b : Bool) → eqb (pair s) p ≡ b → Governing pair gap (suc s) p (cond b (SomeRow s) NoRow)
+  from-none : (s : ℕ) → Governing pair gap s p None → (b : Bool) → eqb (pair s) p ≡ b → Governing pair gap (suc s) p (cond b (Some s) None)
   from-none s f true e = record {
     inside = omega arith;
     of_pair = eqb-true (pair s) p e;
@@ -37,7 +36,7 @@ module _ (pair : ℕ → ℕ) (gap : ℕ → Float) (p : ℕ) where
   from-none s f false e = up_to (λ j. pair j ≡ p → ⊥) s (eqb-false (pair s) p e) f
 
   -- the record a governs those before s
-  from_some : (a s : ℕ) → Governs pair gap s p a → (b : Bool) → (eqb (pair s) p && lt (gap s) (gap a)) ≡ b → Governing pair gap (suc s) p (cond b (SomeRow s) (SomeRow a))
+  from_some : (a s : ℕ) → Governs pair gap s p a → (b : Bool) → (eqb (pair s) p && lt (gap s) (gap a)) ≡ b → Governing pair gap (suc s) p (cond b (Some s) (Some a))
   from_some a s r true e =
       let t = both (eqb (pair s) p) (lt (gap s) (gap a)) e in
       let h : T (lt (gap s) (gap a)) = holds t.1 in
@@ -61,11 +60,11 @@ module _ (pair : ℕ → ℕ) (gap : ℕ → Float) (p : ℕ) where
   }
 
   -- one record more
-  first_step : (m : MaybeRow) (s : ℕ) → Governing pair gap s p m → Governing pair gap (suc s) p (least_of pair gap p m s)
-  first_step NoRow s r = from-none s r (eqb (pair s) p) refl
-  first_step (SomeRow a) s r = from_some a s r (eqb (pair s) p && lt (gap s) (gap a)) refl
+  first_step : (m : Option ℕ) (s : ℕ) → Governing pair gap s p m → Governing pair gap (suc s) p (least_of pair gap p m s)
+  first_step None s r = from-none s r (eqb (pair s) p) refl
+  first_step (Some a) s r = from_some a s r (eqb (pair s) p && lt (gap s) (gap a)) refl
 
-  first-fold : (k : ℕ) (m : MaybeRow) (s : ℕ) → Governing pair gap s p m → Governing pair gap (s + k) p (fold_in (least_of pair gap p) m k s)
+  first-fold : (k : ℕ) (m : Option ℕ) (s : ℕ) → Governing pair gap s p m → Governing pair gap (s + k) p (fold_in (least_of pair gap p) m k s)
   unfolding fold_in
   first-fold zero m s r = subst (λ (n : ℕ). Governing pair gap n p m) (sym (add-zero s)) r
   first-fold (suc k) m s r = subst (λ (n : ℕ). Governing pair gap n p (fold_in (least_of pair gap p) (least_of pair gap p m s) k (suc s))) (omega arith)
@@ -75,4 +74,4 @@ module _ (pair : ℕ → ℕ) (gap : ℕ → Float) (p : ℕ) where
 pub governing-first : (pair : ℕ → ℕ) (gap : ℕ → Float) (n p : ℕ) → Governing pair gap n p (governing_of pair gap n p)
 unfolding governing_of
 governing-first pair gap n p =
-    subst (λ (k : ℕ). Governing pair gap k p (fold_in (least_of pair gap p) NoRow n 0)) (zero-add n) (first-fold pair gap p n NoRow 0 (λ j l q. absurd (omega arith)))
+    subst (λ (k : ℕ). Governing pair gap k p (fold_in (least_of pair gap p) None n 0)) (zero-add n) (first-fold pair gap p n None 0 (λ j l q. absurd (omega arith)))

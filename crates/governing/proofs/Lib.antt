@@ -1,4 +1,4 @@
 pub mod Laws
-pub mod Smallest
+pub mod Gaps
 pub mod Entries
 pub mod First

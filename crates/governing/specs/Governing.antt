@@ -1,34 +1,29 @@
 -- The governing row of a pair (contact/rows.rs: `of_pair`, `governing`, `gap`), and one row's gradient or slip by its number (`grad`, `slip`). Records are given by functions of their
 -- number: the pair that they name, and their gap. Definitions only.
-use Rattle.std.specs.Prelude.{ℕ, ◌+◌, ◌*◌, ◌<◌, ◌≡◌, Bool, ◌&&◌, cond, List, [], ◌∷◌, T, eqb, leb, ltb, length, take, drop, replicate, Float}
+use Rattle.std.specs.Prelude.{ℕ, ◌+◌, ◌*◌, ◌<◌, ◌≡◌, Bool, ◌&&◌, cond, List, [], ◌∷◌, T, eqb, leb, ltb, length, take, drop, Float, Option, Some, None, option_map, Result, Ok, Err}
 use Rattle.std.specs.Float.{nan}
 use Rattle.std.specs.Float.Ieee.{lt, eq}
 use Rattle.laws.specs.Fill.{filled}
 use Rattle.laws.specs.Loops.{fold_in}
 use Rattle.ieee.specs.Consts.{zero_f}
-use Rattle.bodies.specs.declared.Checked.TheVariants.{Accepted, Refused}
 use Rattle.bodies.specs.declared.Problem.TheVariants.{NoSuchThing}
-use Rattle.governing.specs.declared.Best.{Best}
-use Rattle.governing.specs.declared.Best.TheVariants.{Nothing, At}
-use Rattle.governing.specs.declared.EntriesAnswer.{EntriesAnswer}
-use Rattle.governing.specs.declared.MaybeGap.{MaybeGap}
-use Rattle.governing.specs.declared.MaybeGap.TheVariants.{SomeGap, NoGap}
-use Rattle.governing.specs.declared.MaybeRow.{MaybeRow}
-use Rattle.governing.specs.declared.MaybeRow.TheVariants.{SomeRow, NoRow}
+use Rattle.bodies.specs.declared.Problem.{Problem}
+use Rattle.governing.specs.declared.Smallest.{Smallest}
+use Rattle.governing.specs.declared.RowEntries.{RowEntries}
 
 module _ (pair : ℕ → ℕ) (gap : ℕ → Float) where
   -- with the record j looked at too: the pair's first record, then only a strictly smaller gap
-  abbrev pub least_of : ℕ → MaybeRow → ℕ → MaybeRow
-  least_of p NoRow j = cond (eqb (pair j) p) (SomeRow j) NoRow
-  least_of p (SomeRow a) j = cond (eqb (pair j) p && lt (gap j) (gap a)) (SomeRow j) (SomeRow a)
+  abbrev pub least_of : ℕ → Option ℕ → ℕ → Option ℕ
+  least_of p None j = cond (eqb (pair j) p) (Some j) None
+  least_of p (Some a) j = cond (eqb (pair j) p && lt (gap j) (gap a)) (Some j) (Some a)
 
   -- of n records, for the pair p
-  unfoldable pub governing_of : ℕ → ℕ → MaybeRow
-  governing_of n p = fold_in (least_of p) NoRow n 0
+  unfoldable pub governing_of : ℕ → ℕ → Option ℕ
+  governing_of n p = fold_in (least_of p) None n 0
 
-  abbrev pub gap_of : MaybeRow → MaybeGap
-  gap_of (SomeRow i) = SomeGap (gap i)
-  gap_of NoRow = NoGap
+  abbrev pub gap_of : Option ℕ → Option Float
+  gap_of (Some i) = Some (gap i)
+  gap_of None = None
 
 -- ---- what demand 3 says of it, for n records and the pair p
 module _ (pair : ℕ → ℕ) (gap : ℕ → Float) (n p : ℕ) where
@@ -41,30 +36,28 @@ module _ (pair : ℕ → ℕ) (gap : ℕ → Float) (n p : ℕ) where
     pub nan_stays : (j : ℕ) → j < n → pair j ≡ p → ((k : ℕ) → k < j → pair k ≡ p → ⊥) → gap j ≡ nan → i ≡ j
 
   -- there is none exactly where no record names the pair
-  abbrev pub Governing : MaybeRow → Type 0
-  Governing (SomeRow i) = Governs i
-  Governing NoRow = (j : ℕ) → j < n → pair j ≡ p → ⊥
+  abbrev pub Governing : Option ℕ → Type 0
+  Governing (Some i) = Governs i
+  Governing None = (j : ℕ) → j < n → pair j ≡ p → ⊥
 
 -- ---- the smallest of gaps that come with the numbers of their rows
 -- one gap more: the first, then only a strictly smaller one; a NaN that came first stays
-abbrev pub lesser_gap : Best → ℕ → Float → Best
-lesser_gap Nothing i g = At i g
-lesser_gap (At a h) i g = cond (lt g h) (At i g) (At a h)
+abbrev pub lesser_gap : Option Smallest → ℕ → Float → Option Smallest
+lesser_gap None i g = Some (record { at = i; gap = g })
+lesser_gap (Some b) i g = cond (lt g b.gap) (Some (record { at = i; gap = g })) (Some b)
 
 -- gap by gap, as far as both lists go
-unfoldable pub least_gap : Best → List ℕ → List Float → Best
+unfoldable pub least_gap : Option Smallest → List ℕ → List Float → Option Smallest
 least_gap best [] gs = best
 least_gap best (i ∷ js) [] = best
 least_gap best (i ∷ js) (g ∷ gs) = least_gap (lesser_gap best i g) js gs
 
 -- its row, and the gap by itself
-abbrev pub row_of_best : Best → MaybeRow
-row_of_best Nothing = NoRow
-row_of_best (At i g) = SomeRow i
+abbrev pub row_of_best : Option Smallest → Option ℕ
+row_of_best best = option_map (λ (b : Smallest). b.at) best
 
-abbrev pub gap_of_best : Best → MaybeGap
-gap_of_best Nothing = NoGap
-gap_of_best (At i g) = SomeGap g
+abbrev pub gap_of_best : Option Smallest → Option Float
+gap_of_best best = option_map (λ (b : Smallest). b.gap) best
 
 -- ---- of lent arrays: no more records than the shorter holds
 abbrev pub lesser : ℕ → ℕ → ℕ
@@ -77,8 +70,8 @@ records_in n places values = lesser n (lesser places values)
 abbrev pub row_there : (entries coords n i : ℕ) → Bool
 row_there entries coords n i = leb coords 16 && (ltb i n && leb (i * coords + coords) entries)
 
-unfoldable pub row_entries : List Float → ℕ → ℕ → ℕ → EntriesAnswer
+unfoldable pub row_entries : List Float → ℕ → ℕ → ℕ → Result RowEntries Problem
 row_entries entries coords n i =
     cond (row_there (length entries) coords n i)
-    (record { checked = Accepted; count = coords; entry = filled 16 zero_f (take coords (drop (i * coords) entries)) })
-    (record { checked = Refused NoSuchThing; count = 0; entry = replicate 16 zero_f })
+    (Ok (record { count = coords; entry = filled 16 zero_f (take coords (drop (i * coords) entries)) }))
+    (Err NoSuchThing)

@@ -15,7 +15,7 @@ use Rattle.laws.specs.Floats.{Numeric}
 use Rattle.laws.proofs.Choice.{decided, clash, is_true, is_false, or_cases, or_l, or_r}
 use Rattle.laws.proofs.Order.{lt_trans, lt_eq, eq-lt, eq_trans, eq-sym, lt_asym, lt_not_eq, lt_left, trichotomy}
 use Rattle.ieee.specs.TotalOrder.{is_zero, total_order, total_of}
-use Rattle.ieee.specs.declared.order.Ordering.TheVariants.{Less}
+use Rattle.std.specs.declared.cmp.Ordering.TheVariants.{Less}
 
 -- ---- the zeros
 one-sign : (x : Float) → T (is_zero true x) → T (is_zero false x) → ⊥

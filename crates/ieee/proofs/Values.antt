@@ -44,6 +44,10 @@ le_no_nan x nan h = true≢false (sym h ∙ le_nan x)
 le_no_nan x (inf s) h = tt
 le_no_nan x (fin s m e) h = tt
 
+pub the_nan : of_bits binary64 0x7ff8_0000_0000_0000 ≡ nan
+unfolding of_bits
+the_nan = refl
+
 pub zero_over_zero : div binary64 (of_bits binary64 0) (of_bits binary64 0) ≡ nan
 unfolding of_bits div
 zero_over_zero = refl
@@ -61,20 +65,20 @@ of_nan (fin s m e) h = absurd (true≢false (sym h))
 pub nan_pattern : (b : ℕ) → 0x7ff0_0000_0000_0000 < b % 0x8000_0000_0000_0000 → of_bits binary64 b ≡ nan
 nan_pattern b h = of_nan (of_bits binary64 b) (sym (nan_bits_is binary64 b) ∙ nan_bits_above binary64 b ∙ lt-ltb 0x7ff0_0000_0000_0000 (b % 0x8000_0000_0000_0000) h)
 
-pub no_nan-pattern : (b : ℕ) → b % 0x8000_0000_0000_0000 ≤ 0x7ff0_0000_0000_0000 → T (not (nan_bits binary64 b))
-no_nan-pattern b h = subst (λ (t : Bool). T (not t)) (sym (nan_bits_above binary64 b ∙ le-ltb 0x7ff0_0000_0000_0000 (b % 0x8000_0000_0000_0000) h)) tt
+pub no_nan_pattern : (b : ℕ) → b % 0x8000_0000_0000_0000 ≤ 0x7ff0_0000_0000_0000 → T (not (nan_bits binary64 b))
+no_nan_pattern b h = subst (λ (t : Bool). T (not t)) (sym (nan_bits_above binary64 b ∙ le-ltb 0x7ff0_0000_0000_0000 (b % 0x8000_0000_0000_0000) h)) tt
 
 pub nan_bits_lem : 0x7ff8_0000_0000_0000 ≡ to_bits binary64 nan
 unfolding to_bits
 nan_bits_lem = refl
 
 -- ---- infinities
-pub finite-test : (x : Float) → (lt x infinity_f && lt (neg infinity_f) x) ≡ finite x
+pub finite_test : (x : Float) → (lt x infinity_f && lt (neg infinity_f) x) ≡ finite x
 unfolding lt neg of_bits
-finite-test nan = refl
-finite-test (inf true) = refl
-finite-test (inf false) = refl
-finite-test (fin s m e) = refl
+finite_test nan = refl
+finite_test (inf true) = refl
+finite_test (inf false) = refl
+finite_test (fin s m e) = refl
 
 -- ---- zeros
 above_zero : (m : ℕ) (e : ℤ) → 0 < suc m * up e * 1
@@ -83,21 +87,21 @@ above_zero m e = rw mul-one (mul-pos (zero-lt-suc m) (up_pos e))
 not_zero : (m : ℕ) (e : ℤ) → suc m * up e * 1 ≡ 0 → ⊥
 not_zero m e h = lt_irrefl 0 (subst (λ (z : ℕ). 0 < z) h (above_zero m e))
 
-pub minus-zero_test : (x : Float) → (eq x (of_bits binary64 0) && lt (div binary64 (of_bits binary64 0x3ff0_0000_0000_0000) x) (of_bits binary64 0)) ≡ is_zero true x
+pub minus_zero_test : (x : Float) → (eq x (of_bits binary64 0) && lt (div binary64 (of_bits binary64 0x3ff0_0000_0000_0000) x) (of_bits binary64 0)) ≡ is_zero true x
 unfolding eq lt div of_bits
-minus-zero_test nan = refl
-minus-zero_test (inf s) = refl
-minus-zero_test (fin true zero e) = simp zero-mul
-minus-zero_test (fin false zero e) = simp zero-mul
-minus-zero_test (fin s (suc m) e) = simp (zero-mul, ne_eqb (suc m * up e * 1) 0 (not_zero m e))
+minus_zero_test nan = refl
+minus_zero_test (inf s) = refl
+minus_zero_test (fin true zero e) = simp zero-mul
+minus_zero_test (fin false zero e) = simp zero-mul
+minus_zero_test (fin s (suc m) e) = simp (zero-mul, ne_eqb (suc m * up e * 1) 0 (not_zero m e))
 
-pub plus-zero_test : (x : Float) → (eq x (of_bits binary64 0) && lt (of_bits binary64 0) (div binary64 (of_bits binary64 0x3ff0_0000_0000_0000) x)) ≡ is_zero false x
+pub plus_zero_test : (x : Float) → (eq x (of_bits binary64 0) && lt (of_bits binary64 0) (div binary64 (of_bits binary64 0x3ff0_0000_0000_0000) x)) ≡ is_zero false x
 unfolding eq lt div of_bits
-plus-zero_test nan = refl
-plus-zero_test (inf s) = refl
-plus-zero_test (fin true zero e) = simp zero-mul
-plus-zero_test (fin false zero e) = simp zero-mul
-plus-zero_test (fin s (suc m) e) = simp (zero-mul, ne_eqb (suc m * up e * 1) 0 (not_zero m e))
+plus_zero_test nan = refl
+plus_zero_test (inf s) = refl
+plus_zero_test (fin true zero e) = simp zero-mul
+plus_zero_test (fin false zero e) = simp zero-mul
+plus_zero_test (fin s (suc m) e) = simp (zero-mul, ne_eqb (suc m * up e * 1) 0 (not_zero m e))
 
 -- a zero that fits is written with the exponent 0
 too_big : (k : ℕ) → 2 ^ suc k ≡ 1 → ⊥
@@ -117,3 +121,9 @@ abs_test (fin true zero e) f = simp zero-mul (ap (fin false 0) (sym (zero_expone
 abs_test (fin false zero e) f = simp zero-mul (ap (fin false 0) (sym (zero_exponent e f)))
 abs_test (fin true (suc m) e) f = simp (zero-mul, add-zero, lt-ltb 0 (suc m * up e * 1) (above_zero m e))
 abs_test (fin false (suc m) e) f = simp (zero-mul, le-ltb (suc m * up e * 1) 0 zero-le, ne_eqb (suc m * up e * 1) 0 (not_zero m e))
+
+pub abs_is : (x : Float) → fits binary64 x ≡ true → abs_of x ≡ cond (lt x (of_bits binary64 0)) (neg x) (cond (eq x (of_bits binary64 0)) (of_bits binary64 0) x)
+abs_is x h = sym (abs_test x (subst T (sym h) tt))
+
+-- floats and their patterns
+pub ruleset patterns = (nan_bits_lem, is-nan, no_nan, the_nan, nan_pattern, no_nan_pattern)

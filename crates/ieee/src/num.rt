@@ -12,6 +12,7 @@ pub fn choose(t: bool, a: f64, b: f64) -> f64
     if t { a } else { b }
 }
 
+#[tactic(auto, using(crate::proofs::Values::nan_test))]
 pub fn is_nan(x: f64) -> bool
     ensures { result ≡ is_nan x }
 {
@@ -21,45 +22,59 @@ pub fn is_nan(x: f64) -> bool
 pub fn infinity() -> f64
     ensures { result ≡ infinity_f }
 {
-    f64::from_bits(0x7ff0_0000_0000_0000)
+    f64::INFINITY
 }
 
+#[tactic(auto, using(crate::proofs::Values::finite_test))]
 pub fn is_finite(x: f64) -> bool
     ensures { result ≡ finite x }
 {
     (x < infinity()) & (-infinity() < x)
 }
 
+#[tactic(auto, using(crate::proofs::Values::abs_is))]
 pub fn abs(x: f64) -> f64
     ensures { result ≡ abs_of x }
 {
-    choose(x < 0.0, -x, choose(x == 0.0, 0.0, x))
+    if x < 0.0 {
+        -x
+    } else if x == 0.0 {
+        0.0
+    } else {
+        x
+    }
 }
 
 // +0.0 for either zero.
 pub fn plain_zero(x: f64) -> f64
     ensures { result ≡ plain_zero x }
 {
-    choose(x == 0.0, 0.0, x)
+    if x == 0.0 { 0.0 } else { x }
 }
 
 pub fn max(a: f64, b: f64) -> f64
     ensures { result ≡ max_of a b }
 {
-    choose(is_nan(a), b, choose(a < b, b, a))
+    if is_nan(a) || a < b { b } else { a }
 }
 
 pub fn min(a: f64, b: f64) -> f64
     ensures { result ≡ min_of a b }
 {
-    choose(is_nan(a), b, choose(b < a, b, a))
+    if is_nan(a) || b < a { b } else { a }
 }
 
 // Rust's x.clamp(0.0, 1.0).
 pub fn clamp(x: f64) -> f64
     ensures { result ≡ clamp_of x }
 {
-    choose(x < 0.0, 0.0, choose(1.0 < x, 1.0, x))
+    if x < 0.0 {
+        0.0
+    } else if 1.0 < x {
+        1.0
+    } else {
+        x
+    }
 }
 
 // Rust's x.to_bits() == y.to_bits(), two NaNs being the same.

@@ -3,20 +3,16 @@ ghost use Rattle.std.specs.Prelude.{◌≡◌, true, false};
 ghost use Rattle.ieee.specs.TotalOrder.{is_zero, total_order, ordering_of, total_of};
 
 use crate::num::is_nan;
+use std::cmp::Ordering;
 
-#[derive(Clone, Copy)]
-pub enum Ordering {
-    Less,
-    Equal,
-    Greater,
-}
-
+#[tactic(auto, using(crate::proofs::Values::plus_zero_test))]
 fn is_plus_zero(x: f64) -> bool
     ensures { result ≡ is_zero false x }
 {
     (x == 0.0) & (0.0 < 1.0 / x)
 }
 
+#[tactic(auto, using(crate::proofs::Values::minus_zero_test))]
 fn is_minus_zero(x: f64) -> bool
     ensures { result ≡ is_zero true x }
 {
@@ -24,6 +20,7 @@ fn is_minus_zero(x: f64) -> bool
 }
 
 // Whether x stands no later than y.
+#[tactic(auto, unfolding(crate::specs::TotalOrder::total_order))]
 pub fn total_order(x: f64, y: f64) -> bool
     ensures { result ≡ total_order x y }
 {
@@ -33,14 +30,10 @@ pub fn total_order(x: f64, y: f64) -> bool
 fn answer(no_later: bool, no_sooner: bool) -> Ordering
     ensures { result ≡ ordering_of no_later no_sooner }
 {
-    if no_later {
-        if no_sooner {
-            Ordering::Equal
-        } else {
-            Ordering::Less
-        }
-    } else {
-        Ordering::Greater
+    match (no_later, no_sooner) {
+        (true, true) => Ordering::Equal,
+        (true, false) => Ordering::Less,
+        (false, _) => Ordering::Greater,
     }
 }
 

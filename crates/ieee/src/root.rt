@@ -8,6 +8,7 @@ ghost use Rattle.ieee.specs.Near.{Near, Range, Moved};
 ghost use Rattle.ieee.specs.Root.{root_of, IsRoot};
 
 // Whether the root of m * 2^52 is below q + 1/2, whose square is q * q + q + 1/4. With q cut at its lowest 26 bits, q * q is h * 2^52 + l.
+#[tactic(auto, using(crate::proofs::Halves::halves))]
 fn over(q: u64, m: u64) -> bool
     requires { q < 2 ^ 53 }
     ensures { result ≡ leb (m * 2 ^ 52) (q * q + q) }
@@ -41,6 +42,7 @@ fn search(m: u64) -> u64
 // An estimate of the root of x, whose pattern is b. Nothing is proved of it: a wrong one costs time alone. The pattern gives z, which is 1 / root(x) within 7 %, and
 // u = x * z * z, which is near 1. A polynomial of the fifth degree in u, whose factors are c and d, makes z * d * c half of 1 / root(x) within 3e-10; s is the root so
 // found, and one step of Newton's makes it right to a unit in the last place or so.
+#[tactic(auto, using(crate::proofs::Values::no_nan_pattern))]
 fn estimate(x: f64, b: u64) -> f64
     requires { b < 0x7ff0_0000_0000_0000 }
 {
@@ -56,6 +58,7 @@ fn estimate(x: f64, b: u64) -> f64
 }
 
 // A guess at the significand of the root of x, whose pattern is b; e is the root's pattern less its significand. Its contract says only that it has 54 bits.
+#[tactic(auto, using(crate::proofs::Values::le_no_nan))]
 fn guess(x: f64, b: u64, e: u64) -> u64
     requires { b < 0x7ff0_0000_0000_0000 }
     ensures { result < 2 ^ 54 }
@@ -181,7 +184,7 @@ pub fn root(x: f64) -> f64
         if b == 0x8000_0000_0000_0000 {
             return x;
         }
-        return 0.0 / 0.0;
+        return f64::NAN;
     }
     if b == 0 {
         return x;

@@ -6,9 +6,7 @@ use mathlib.Core.List.{List}
 use lib.ListN.{length, take}
 use lib.Seq.{sets, length-sets, length-take-le}
 use lib.Ieee.{Float}
-use Rattle.bodies.specs.Check.{number_of, place_of}
-use Rattle.bodies.specs.declared.Checked.{Checked}
-use Rattle.bodies.specs.declared.Checked.TheVariants.{Accepted, Refused}
+use Rattle.bodies.specs.Check.{Checked, number_of, place_of}
 use Rattle.mechanism.specs.declared.Mechanism.{Mechanism}
 use Rattle.bodies.specs.declared.Problem.{Problem}
 use Rattle.bodies.specs.declared.pose.Pose.{Pose}
@@ -20,26 +18,27 @@ use Rattle.reading_lines.specs.Readings.{refusal, read_if, longest}
 use Rattle.listing.specs.Listing.{posed_if, posed_lines, sheet_if, listing_of}
 use Rattle.reading_lines.proofs.WholeSizes.{all-fits}
 use Rattle.reading_lines.proofs.WholeLaws.{refusal-few}
+use Rattle.std.proofs.Common.{Result, Ok, Err}
 
 refusal-fits : (p : Problem) → length (refusal p) ≤ longest
 refusal-fits p = omega (arith, refusal-few (number_of p) (place_of p))
 
 read_fits : (m : Mechanism) (q : Pose) (margin : Float) (c : Checked) → rows_checked m q 256 256 4096 4096 ≡ c → length (read_if c m q margin) ≤ longest
-read_fits m q margin Accepted e = all-fits m q margin e
-read_fits m q margin (Refused p) e = refusal-fits p
+read_fits m q margin (Ok tt) e = all-fits m q margin e
+read_fits m q margin (Err p) e = refusal-fits p
 
-posed_fits : (m : Mechanism) (q : Pose) (margin : Float) (c : Checked) → length (posed_if c m q margin) ≤ longest
-posed_fits m q margin Accepted = read_fits m q margin (rows_checked m q 256 256 4096 4096) refl
-posed_fits m q margin (Refused p) = refusal-fits p
+posed_fits : (m : Mechanism) (margin : Float) (r : Result Pose Problem) → length (posed_if r m margin) ≤ longest
+posed_fits m margin (Ok q) = read_fits m q margin (rows_checked m q 256 256 4096 4096) refl
+posed_fits m margin (Err p) = refusal-fits p
 
-sheet_fits : (s : Sheet) (c : Checked) → length (sheet_if c s) ≤ longest
+sheet_fits : (r : Result Sheet Problem) → length (sheet_if r) ≤ longest
 unfolding posed_lines
-sheet_fits s Accepted = posed_fits s.mechanism (pose_of s.mechanism s.entries).pose s.margin (pose_of s.mechanism s.entries).checked
-sheet_fits s (Refused p) = refusal-fits p
+sheet_fits (Ok s) = posed_fits s.mechanism s.margin (pose_of s.mechanism s.entries)
+sheet_fits (Err p) = refusal-fits p
 
 pub listing_fits : (text : List ℕ) → length (listing_of text) ≤ longest
 unfolding listing_of
-listing_fits text = sheet_fits (sheet_of text) (sheet_of text).checked
+listing_fits text = sheet_fits (sheet_of text)
 
 -- what a caller needs to take the listing out of the array
 module _ (text out₀ : List ℕ) {out : List ℕ} {r : ℕ} (l : length out₀ ≡ longest) (w : (r ≡ length (listing_of text)) × (out ≡ sets out₀ 0 (listing_of text))) where

@@ -5,23 +5,18 @@ ghost use Rattle.reading_lines.specs.Lines.{Wrote};
 ghost use Rattle.reading_lines.specs.Readings.{longest};
 ghost use Rattle.listing.specs.Listing.{posed_lines, listing_of};
 
-use bodies::pose::{Pose, Posed};
-use bodies::{Checked, Problem};
 use mechanism::Mechanism;
 use reading_lines::whole::{Listed, read_lines, refused};
+use sheet::Entries;
 use sheet::posed::posed;
-use sheet::{Entries, Sheet};
 
 // The readings of a description for the entries of a text.
 fn posed_lines(out: &mut Listed, m: Mechanism, e: Entries, margin: f64) -> usize
     ensures { Wrote out.old 0 (posed_lines m e margin) result out.new }
 {
-    let p = posed(m, e);
-    let c = p.checked;
-    let q = p.pose;
-    match c {
-        Checked::Refused(x) => refused(out, x),
-        Checked::Accepted => read_lines(out, m, q, margin),
+    match posed(m, e) {
+        Ok(q) => read_lines(out, m, q, margin),
+        Err(x) => refused(out, x),
     }
 }
 
@@ -30,14 +25,8 @@ pub fn listing(text: &[u8], out: &mut Listed) -> usize
     ensures value { (result ≡ length (listing_of text.now)) × (out.new ≡ sets out.old 0 (listing_of text.now)) }
     ensures fits { result ≤ longest }
 {
-    let s = sheet::read(text);
-    let c = s.checked;
-    match c {
-        Checked::Refused(p) => refused(out, p),
-        Checked::Accepted => {
-            let m = s.mechanism;
-            let e = s.entries;
-            posed_lines(out, m, e, s.margin)
-        }
+    match sheet::read(text) {
+        Ok(s) => posed_lines(out, s.mechanism, s.entries, s.margin),
+        Err(p) => refused(out, p),
     }
 }

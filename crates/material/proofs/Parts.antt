@@ -1,11 +1,10 @@
 -- Laws on parts of lists and on edges, as the code meets them. Assumes nothing.
 use mathlib.Core.Path.{◌≡◌, sym, ap, ◌∙◌}
 use mathlib.Core.List.{List, [], map}
-use Prim.Native.Nat.{ℕ, ◌+◌, ◌-◌, ◌%◌, ◌≤◌, ◌<◌}
+use Prim.Native.Nat.{ℕ, ◌+◌, ◌%◌, ◌≤◌, ◌<◌}
 use native.Mathlib.Nat.{mod-eq_of_lt, mod_self}
 use native.Mathlib.Omega.{arith}
-use lib.ListN.{length, get_or, take, drop, length-map, length-drop, drop_of_length-le, get_or-map, get_or-eq_default}
-use lib.Seq.{take_all, take-nil}
+use lib.ListN.{length, get_or, length-map, get_or-map}
 use lib.Ieee.{Float}
 use Rattle.laws.specs.Lists.{list_in, foldl}
 use Rattle.laws.proofs.Lists.{list_same, list_map}
@@ -13,24 +12,6 @@ use Rattle.ieee.specs.Num.{min_of}
 use Rattle.ieee.proofs.MinRoot.{Plain, squares-plain}
 use Rattle.geometry.specs.declared.Point.{Point}
 use Rattle.material.specs.Material.{Edge, nowhere, edge_at, edges_of, square_of, point_of, points_of}
-
-pub get_d_past : {A : Type 0} (l : List A) (k : ℕ) (d : A) → length l ≤ k → get_or l k d ≡ d
-get_d_past l k d h = get_or-eq_default l d h
-
-module _ {A : Type 0} (l : List A) (n a e : ℕ) where
-  pub none-asked : e ≤ a → take (n - n) (drop n l) ≡ take (e - a) (drop a l)
-  none-asked h =
-      let p : n - n ≡ 0 = omega arith in
-      let q : e - a ≡ 0 = omega arith in
-      ap (λ (k : ℕ). take k (drop n l)) p ∙ sym (ap (λ (k : ℕ). take k (drop a l)) q)
-
-  pub none-there : length l ≤ a → take (n - n) (drop n l) ≡ take (e - a) (drop a l)
-  none-there h =
-      let p : n - n ≡ 0 = omega arith in
-      ap (λ (k : ℕ). take k (drop n l)) p ∙ sym (ap (take (e - a)) (drop_of_length-le l h) ∙ take-nil (e - a))
-
-  pub all_there : length l ≤ e → take (length l - a) (drop a l) ≡ take (e - a) (drop a l)
-  all_there h = take_all (length l - a) (drop a l) (simp length-drop (omega arith)) ∙ sym (take_all (e - a) (drop a l) (simp length-drop (omega arith)))
 
 -- the index after i of n, without a division
 pub wraps : (i n : ℕ) → i < n → i ≡ i % n

@@ -25,6 +25,7 @@ fn wrap(i: usize, n: usize) -> usize
 }
 
 // Whether the edge from a to b crosses the ray from p.
+#[tactic(auto, unfolding(crate::specs::Material::cross_of))]
 fn crosses(a: Point, b: Point, p: Point) -> bool
     ensures { result ≡ cross_of p (record { a = a; b = b }) }
 {
@@ -48,11 +49,9 @@ pub fn inside(poly: &[Spot], p: Point) -> bool
     }
     let last = n - 1;
     let mut odd = false;
-    let mut i: usize = 0;
-    while i < last {
+    for i in 0..last {
         let u = poly[i];
-        i += 1;
-        let v = poly[i];
+        let v = poly[i + 1];
         let a = Point { x: u[0], y: u[1] };
         let b = Point { x: v[0], y: v[1] };
         if crosses(a, b, p) {
@@ -73,7 +72,7 @@ pub fn inside(poly: &[Spot], p: Point) -> bool
 fn start_at(starts: &[usize], k: usize) -> usize
     ensures { result ≡ get_or starts.now k 0 }
 {
-    if k < starts.len() { starts[k] } else { 0 }
+    starts.get(k).copied().unwrap_or(0)
 }
 
 // The points from a up to e, as far as there are any.
@@ -81,28 +80,21 @@ fn part<'a>(points: &'a [Spot], a: usize, e: usize) -> &'a [Spot]
     ensures { result.now ≡ between points.now a e }
 {
     let n = points.len();
-    if e <= a {
+    if e <= a || n <= a {
         return &points[n..n];
     }
-    if n <= a {
-        return &points[n..n];
-    }
-    if n < e {
-        return &points[a..n];
-    }
-    &points[a..e]
+    &points[a..e.min(n)]
 }
 
 // Whether p is inside one of the polygons from `from` up to `to`.
 fn any_inside(points: &[Spot], starts: &[usize], from: usize, to: usize, p: Point) -> bool
     ensures { result ≡ any (inside_of p) (list_in (poly_at points.now starts.now) (to - from) from) }
 {
-    let mut i = from;
-    while i < to {
-        let a = start_at(starts, i);
-        i += 1;
-        let e = start_at(starts, i);
-        if inside(part(points, a, e), p) {
+    for i in from..to {
+        if inside(
+            part(points, start_at(starts, i), start_at(starts, i + 1)),
+            p,
+        ) {
             return true;
         }
     }
@@ -113,15 +105,11 @@ fn any_inside(points: &[Spot], starts: &[usize], from: usize, to: usize, p: Poin
 pub fn holds(points: &[Spot], starts: &[usize], solids: usize, all: usize, p: Point) -> bool
     ensures { result ≡ holds_of (material_of points.now starts.now solids all) p }
 {
-    if any_inside(points, starts, 0, solids, p) {
-        let c = any_inside(points, starts, solids, all, p);
-        !c
-    } else {
-        false
-    }
+    any_inside(points, starts, 0, solids, p) && !any_inside(points, starts, solids, all, p)
 }
 
 // The square of p's distance from the edge from a to b.
+#[tactic(auto, unfolding(crate::specs::Material::square_of))]
 fn square(a: Point, b: Point, p: Point) -> f64
     ensures { result ≡ square_of p (record { a = a; b = b }) }
 {
@@ -145,13 +133,9 @@ fn least_of(poly: &[Spot], p: Point, from: f64, enough: f64) -> f64
 {
     let n = poly.len();
     let mut best = from;
-    let mut i: usize = 0;
-    while i < n {
-        let k = i;
-        i += 1;
-        let u = poly[k];
-        let j = wrap(i, n);
-        let v = poly[j];
+    for i in 0..n {
+        let u = poly[i];
+        let v = poly[wrap(i + 1, n)];
         let a = Point { x: u[0], y: u[1] };
         let b = Point { x: v[0], y: v[1] };
         let q = square(a, b, p);
@@ -177,12 +161,9 @@ fn least(
     ensures { Serves enough result (foldl (λ x l. foldl (λ x e. min_of x (square_of p e)) x (edges_of l)) from (list_in (poly_at points.now starts.now) (to - first) first)) × (is_nan result ≡ false) }
 {
     let mut best = from;
-    let mut i = first;
-    while i < to {
-        let a = start_at(starts, i);
-        i += 1;
-        let e = start_at(starts, i);
-        best = least_of(part(points, a, e), p, best, enough);
+    for i in first..to {
+        let poly = part(points, start_at(starts, i), start_at(starts, i + 1));
+        best = least_of(poly, p, best, enough);
     }
     best
 }
@@ -220,6 +201,7 @@ pub struct Range {
     pub hi: f64,
 }
 
+#[tactic(auto, using(crate::proofs::Outside::nothing))]
 fn low(lo: f64, y: f64) -> f64
     ensures { result ≡ low_of lo y }
 {
@@ -236,13 +218,9 @@ fn high(hi: f64, y: f64) -> f64
 pub fn y_range(points: &[Spot]) -> Range
     ensures { result ≡ range_of points.now }
 {
-    let n = points.len();
     let mut lo = infinity();
     let mut hi = -infinity();
-    let mut i: usize = 0;
-    while i < n {
-        let v = points[i];
-        i += 1;
+    for v in points {
         lo = low(lo, v[1]);
         hi = high(hi, v[1]);
     }
@@ -256,6 +234,7 @@ fn is_outside(lo: f64, hi: f64, y: f64) -> bool
 }
 
 // The largest of d and the square of p's depth, with the points outside a range settled at once.
+#[tactic(auto, using(crate::proofs::Serves::serves_max))]
 pub fn deeper_square(
     points: &[Spot],
     starts: &[usize],

@@ -1,31 +1,29 @@
 -- Checks one after the other, and what a description that passes them is known to be. Worked is named so that the worked descriptions are computed before: a wrong definition then fails at a plain example. Assumes nothing.
 use mathlib.Core.Path.{◌≡◌, refl, sym, ap, ◌∙◌}
-use mathlib.Core.Bool.{Bool, true, false, false≢true, not, ◌&&◌, ◌||◌}
+use mathlib.Core.Bool.{Bool, true, false, not, ◌&&◌, ◌||◌}
 use Prim.Native.Nat.{ℕ, ◌+◌, ◌<◌, ◌≤◌}
 use native.Mathlib.Omega.{arith}
 use lib.Dec.{ltb, eqb}
-use borrow.Author.Tests.{ltb-false, lt-ltb, le-ltb}
-use Rattle.laws.proofs.Choice.{and_yes, and_no, or_no, neither, both, not_yes}
+use borrow.Author.Tests.{ltb-false, le-ltb}
+use Rattle.laws.proofs.Choice.{or_no, neither, both, not_yes}
 use Rattle.laws.proofs.Finite.{any_none, any-all, first-none}
 use Rattle.laws.proofs.Sums.{sum_more, sum_mono}
-use Rattle.bodies.proofs.Checks.{stops, goes_on, stops-if, goes-on_if, one_by_one, refused-not, passed, passed-if, accepted-is, stand_as}
+use Rattle.bodies.proofs.Checks.{stops, goes_on, stops-if, goes-on_if, one_by_one, no_refusal, passed, passed-if, stand_as}
 use Rattle.mechanism.specs.Pose.{pose_checked}
 use Rattle.bodies.specs.Pose.{bodies_posed}
 use mathlib.Core.List.{List}
 use lib.Ieee.{Float}
 use lib.ListN.{length}
-use Rattle.mechanism.specs.Description.{part_at, pair_at, segs_of, start_of_part, side_length}
-use Rattle.bodies.specs.Check.{is_accepted, and_then, refused_if, bodies_checked, bodies_lack, bodies_stand}
-use Rattle.mechanism.specs.Check.{side_over, pair_over, parts_over, pairs_over, limit_passed, parts_lack, outlines_lack, direction_missing, parts_checked, part_draws, with_drawn, with_range, side_body, sides_checked, pairs_checked, check_of, then_called, call_checked, FewParts, FewPairs, Few}
+use Rattle.mechanism.specs.Description.{pair_at, segs_of, start_of_part, side_length}
+use Rattle.bodies.specs.Check.{Checked, and_then, refused_if, bodies_checked, bodies_lack, bodies_stand}
+use Rattle.mechanism.specs.Check.{side_over, pair_over, parts_over, pairs_over, limits_passed, limit_passed, parts_lack, outlines_lack, direction_missing, parts_checked, side_body, sides_checked, pairs_checked, check_of, call_checked, FewParts, FewPairs, Few}
 use Rattle.mechanism.specs.declared.Parts.{Parts}
 use Rattle.mechanism.specs.declared.Pairs.{Pairs}
 use Rattle.mechanism.specs.declared.Mechanism.{Mechanism}
 use Rattle.mechanism.specs.declared.pair.Surface.{Surface}
-use Rattle.mechanism.specs.declared.part.SurfaceRef.{SurfaceRef}
-use Rattle.mechanism.specs.declared.check.Side.{Side}
+use Rattle.bodies.specs.declared.Bodies.{Bodies}
 use Rattle.bodies.specs.declared.Problem.TheVariants.{LimitPassed, NoDirection, PoseNotMatching, NoSuchThing, TooFewRows}
-use Rattle.bodies.specs.declared.Checked.{Checked}
-use Rattle.bodies.specs.declared.Checked.TheVariants.{Accepted, Refused}
+use Rattle.std.proofs.Common.{Ok, Err, is_ok}
 
 -- ---- no limit is passed
 pub few-parts : (p : Parts) → parts_over p ≡ false → FewParts p
@@ -82,19 +80,28 @@ few m e =
       pairs = few-pairs m.pairs c.1;
     }
 
+-- the parts and the pairs beside bodies
+module _ (b : Bodies) (p : Parts) (q : Pairs) (e : limits_passed b p q ≡ false) where
+  over-neither : (parts_over p ≡ false) × (pairs_over q ≡ false)
+  over-neither = neither (parts_over p) (pairs_over q) (neither (ltb 15 b.count || ltb 16 b.coords) _ e).1
+
+  pub parts_within : FewParts p
+  parts_within = few-parts p over-neither.0
+
+  pub pairs_within : FewPairs q
+  pairs_within = few-pairs q over-neither.1
+
 -- the parts and a side that pass no limit
 pub within-limits : (ps : Parts) (u : Surface) → (not (parts_over ps) && not (side_over u)) ≡ true → FewParts ps × (u.count ≤ 4)
 within-limits ps u e =
     let b = both (not (parts_over ps)) (not (side_over u)) e in
     (few-parts ps (not_yes (parts_over ps) b.0), ltb-false 4 u.count (neither _ (ltb 12 (side_length u)) (not_yes (side_over u) b.1)).0)
 
--- ---- one range more of a side: of a part that there is, or of none
-module _ (ps : Parts) (pair : ℕ) (s : Side) (r : SurfaceRef) where
-  pub range-of-part : r.part < ps.count → with_range ps pair s r ≡ with_drawn pair s (part_draws (part_at ps r.part) r) (part_at ps r.part).body
-  range-of-part h = ap (λ (d : Bool). with_drawn pair s d (part_at ps r.part).body) (and_yes _ (lt-ltb _ _ h))
+pub parts_counted : (p : Parts) → parts_over p ≡ false → FewParts p × (start_of_part p p.count ≤ 384)
+parts_counted p e = let f = few-parts p e in (f, f.total)
 
-  pub range-of-none : ps.count ≤ r.part → with_range ps pair s r ≡ with_drawn pair s false 0
-  range-of-none h = ap (λ (d : Bool). with_drawn pair s d (part_at ps r.part).body) (and_no _ (le-ltb _ _ h))
+pub side_counted : (ps : Parts) (u : Surface) → parts_over ps ≡ false → side_over u ≡ false → FewParts ps × (u.count ≤ 4)
+side_counted ps u e f = (few-parts ps e, ltb-false 4 u.count (neither _ (ltb 12 (side_length u)) f).0)
 
 -- ---- where the check of a description ends
 module _ (m : Mechanism) where
@@ -108,7 +115,7 @@ module _ (m : Mechanism) where
   abbrev from_directions : Checked
   from_directions = and_then (refused_if drawn_lack NoDirection) from_parts
 
-  pub at-limits : limit_passed m ≡ true → check_of m ≡ Refused LimitPassed
+  pub at-limits : limit_passed m ≡ true → check_of m ≡ Err LimitPassed
   unfolding check_of
   at-limits e = stops-if LimitPassed (and_then (bodies_checked m.bodies) (and_then (refused_if (direction_missing m) NoDirection) from_parts)) e
 
@@ -120,129 +127,73 @@ module _ (m : Mechanism) where
       ∙ one_by_one (bodies_checked m.bodies) (bodies_lack m.bodies) drawn_lack NoDirection from_parts
       ∙ ap (λ (c : Checked). and_then c from_directions) (sym (stand_as m.bodies (neither (ltb 15 m.bodies.count || ltb 16 m.bodies.coords) (parts_over m.parts || pairs_over m.pairs) e).0 refl refl))
 
-  pub at-bodies : limit_passed m ≡ false → is_accepted (bodies_stand m.bodies) ≡ false → check_of m ≡ bodies_stand m.bodies
-  at-bodies e f = past-limits e ∙ stops (bodies_stand m.bodies) from_directions f
+  pub check_is : check_of m ≡ and_then (refused_if (limit_passed m) LimitPassed) (and_then (bodies_stand m.bodies) from_directions)
+  check_is = go (limit_passed m) refl
+    where
+      go : (t : Bool) → limit_passed m ≡ t → check_of m ≡ and_then (refused_if (limit_passed m) LimitPassed) (and_then (bodies_stand m.bodies) from_directions)
+      go true e = at-limits e ∙ sym (stops-if LimitPassed (and_then (bodies_stand m.bodies) from_directions) e)
+      go false e = past-limits e ∙ sym (goes-on_if LimitPassed (and_then (bodies_stand m.bodies) from_directions) e)
 
-  past-bodies : limit_passed m ≡ false → is_accepted (bodies_stand m.bodies) ≡ true → check_of m ≡ from_directions
-  past-bodies e f = past-limits e ∙ goes_on (bodies_stand m.bodies) from_directions f
-
-  pub at-directions : limit_passed m ≡ false → is_accepted (bodies_stand m.bodies) ≡ true → drawn_lack ≡ true → check_of m ≡ Refused NoDirection
-  at-directions e f g = past-bodies e f ∙ stops-if NoDirection from_parts g
-
-  past-directions : limit_passed m ≡ false → is_accepted (bodies_stand m.bodies) ≡ true → drawn_lack ≡ false → check_of m ≡ from_parts
-  past-directions e f g = past-bodies e f ∙ goes-on_if NoDirection from_parts g
-
-  pub at-parts : limit_passed m ≡ false → is_accepted (bodies_stand m.bodies) ≡ true → drawn_lack ≡ false
-      → is_accepted (parts_checked m.bodies.count m.parts m.outlines) ≡ false → check_of m ≡ parts_checked m.bodies.count m.parts m.outlines
-  at-parts e f g h = past-directions e f g ∙ stops (parts_checked m.bodies.count m.parts m.outlines) (pairs_checked m.parts m.pairs) h
-
-  pub at-pairs : limit_passed m ≡ false → is_accepted (bodies_stand m.bodies) ≡ true → drawn_lack ≡ false
-      → is_accepted (parts_checked m.bodies.count m.parts m.outlines) ≡ true → check_of m ≡ pairs_checked m.parts m.pairs
-  at-pairs e f g h = past-directions e f g ∙ goes_on (parts_checked m.bodies.count m.parts m.outlines) (pairs_checked m.parts m.pairs) h
-
--- ---- where the list of a call ends, behind the check c of its description
-module _ (c : Checked) (fits known room : Bool) where
-  abbrev from_room : Checked
-  from_room = refused_if (not room) TooFewRows
-
-  abbrev from_names : Checked
-  from_names = and_then (refused_if (not known) NoSuchThing) from_room
-
-  abbrev from_pose : Checked
-  from_pose = and_then (refused_if (not fits) PoseNotMatching) from_names
-
-  pub called_refused : is_accepted c ≡ false → then_called c fits known room ≡ c
-  called_refused e = stops c from_pose e
-
-  past-description : is_accepted c ≡ true → then_called c fits known room ≡ from_pose
-  past-description e = goes_on c from_pose e
-
-  pub called_pose : is_accepted c ≡ true → not fits ≡ true → then_called c fits known room ≡ Refused PoseNotMatching
-  called_pose e f = past-description e ∙ stops-if PoseNotMatching from_names f
-
-  past-pose : is_accepted c ≡ true → not fits ≡ false → then_called c fits known room ≡ from_names
-  past-pose e f = past-description e ∙ goes-on_if PoseNotMatching from_names f
-
-  pub called_names : is_accepted c ≡ true → not fits ≡ false → not known ≡ true → then_called c fits known room ≡ Refused NoSuchThing
-  called_names e f g = past-pose e f ∙ stops-if NoSuchThing from_room g
-
-  pub called_room : is_accepted c ≡ true → not fits ≡ false → not known ≡ false → then_called c fits known room ≡ from_room
-  called_room e f g = past-pose e f ∙ goes-on_if NoSuchThing from_room g
-
--- the same of a description
+-- ---- where the list of a call on a description ends
 module _ (m : Mechanism) (fits known room : Bool) where
-  pub at-description : is_accepted (check_of m) ≡ false → call_checked m fits known room ≡ check_of m
-  at-description = called_refused (check_of m) fits known room
+  pub at-description : is_ok (check_of m) ≡ false → call_checked m fits known room ≡ check_of m
+  at-description e = stops (check_of m) _ e
 
-  pub at-pose : is_accepted (check_of m) ≡ true → not fits ≡ true → call_checked m fits known room ≡ Refused PoseNotMatching
-  at-pose = called_pose (check_of m) fits known room
+  pub at-pose : is_ok (check_of m) ≡ true → not fits ≡ true → call_checked m fits known room ≡ Err PoseNotMatching
+  at-pose e f = goes_on (check_of m) _ e ∙ stops-if PoseNotMatching _ f
 
-  pub at_names : is_accepted (check_of m) ≡ true → not fits ≡ false → not known ≡ true → call_checked m fits known room ≡ Refused NoSuchThing
-  at_names = called_names (check_of m) fits known room
+  pub at_names : is_ok (check_of m) ≡ true → not fits ≡ false → not known ≡ true → call_checked m fits known room ≡ Err NoSuchThing
+  at_names e f g = goes_on (check_of m) _ e ∙ goes-on_if PoseNotMatching _ f ∙ stops-if NoSuchThing _ g
 
 -- ---- what an accepted description is known to be
 -- a call that is not refused: its description is accepted, and all that it asks for is there
-pub call_accepted : (m : Mechanism) (fits known room : Bool) → call_checked m fits known room ≡ Accepted → (check_of m ≡ Accepted) × (fits ≡ true) × (known ≡ true) × (room ≡ true)
+pub call_accepted : (m : Mechanism) (fits known room : Bool) → call_checked m fits known room ≡ Ok tt → (check_of m ≡ Ok tt) × (fits ≡ true) × (known ≡ true) × (room ≡ true)
 call_accepted m fits known room e =
-    let a = passed (check_of m) (from_pose (check_of m) fits known room) e in
-    let b = passed (refused_if (not fits) PoseNotMatching) (from_names (check_of m) fits known room) a.1 in
-    let c = passed (refused_if (not known) NoSuchThing) (from_room (check_of m) fits known room) b.1 in
+    let a = passed (check_of m) _ e in
+    let b = passed (refused_if (not fits) PoseNotMatching) _ a.1 in
+    let c = passed (refused_if (not known) NoSuchThing) (refused_if (not room) TooFewRows) b.1 in
     (a.0, passed-if fits PoseNotMatching b.0, passed-if known NoSuchThing c.0, passed-if room TooFewRows c.1)
 
-module _ (m : Mechanism) (e : check_of m ≡ Accepted) where
+module _ (m : Mechanism) (e : check_of m ≡ Ok tt) where
+  below_limits : (refused_if (limit_passed m) LimitPassed ≡ Ok tt) × (and_then (bodies_stand m.bodies) (from_directions m) ≡ Ok tt)
+  below_limits = passed (refused_if (limit_passed m) LimitPassed) (and_then (bodies_stand m.bodies) (from_directions m)) (sym (check_is m) ∙ e)
+
   no_limit : limit_passed m ≡ false
-  no_limit = go (limit_passed m) refl
-    where
-      go : (b : Bool) → limit_passed m ≡ b → b ≡ false
-      go true h = absurd (refused-not LimitPassed (sym (at-limits m h) ∙ e))
-      go false h = refl
+  no_limit = no_refusal (limit_passed m) LimitPassed below_limits.0
 
   pub accepted-few : Few m
   accepted-few = few m no_limit
 
-  bodies-pass : is_accepted (bodies_stand m.bodies) ≡ true
-  bodies-pass = go (is_accepted (bodies_stand m.bodies)) refl
-    where
-      go : (b : Bool) → is_accepted (bodies_stand m.bodies) ≡ b → b ≡ true
-      go true h = refl
-      go false h = absurd (false≢true (sym h ∙ ap is_accepted (sym (at-bodies m no_limit h) ∙ e)))
+  pub accepted_bodies : m.bodies.count ≤ 15
+  accepted_bodies = accepted-few.bodies
 
-  pub accepted-stand : bodies_stand m.bodies ≡ Accepted
-  accepted-stand = accepted-is (bodies_stand m.bodies) bodies-pass
+  bodies_pass : (bodies_stand m.bodies ≡ Ok tt) × (from_directions m ≡ Ok tt)
+  bodies_pass = passed (bodies_stand m.bodies) (from_directions m) below_limits.1
+
+  pub accepted-stand : bodies_stand m.bodies ≡ Ok tt
+  accepted-stand = bodies_pass.0
 
   -- no side passes a limit
   pub accepted-sides : (i : ℕ) → i < m.pairs.count → (side_over (pair_at m.pairs i).a ≡ false) × (side_over (pair_at m.pairs i).b ≡ false)
   unfolding limit_passed
   accepted-sides i h = sides-few m.pairs (neither (parts_over m.parts) _ (neither (ltb 15 m.bodies.count || ltb 16 m.bodies.coords) _ no_limit).1).1 i h
 
-  directions_pass : drawn_lack m ≡ false
-  directions_pass = go (drawn_lack m) refl
-    where
-      go : (b : Bool) → drawn_lack m ≡ b → b ≡ false
-      go true h = absurd (refused-not NoDirection (sym (at-directions m no_limit bodies-pass h) ∙ e))
-      go false h = refl
-
-  parts-pass : is_accepted (parts_checked m.bodies.count m.parts m.outlines) ≡ true
-  parts-pass = go (is_accepted (parts_checked m.bodies.count m.parts m.outlines)) refl
-    where
-      go : (b : Bool) → is_accepted (parts_checked m.bodies.count m.parts m.outlines) ≡ b → b ≡ true
-      go true h = refl
-      go false h = absurd (false≢true (sym h ∙ ap is_accepted (sym (at-parts m no_limit bodies-pass directions_pass h) ∙ e)))
-
-  pairs-pass : is_accepted (pairs_checked m.parts m.pairs) ≡ true
-  pairs-pass = ap is_accepted (sym (at-pairs m no_limit bodies-pass directions_pass parts-pass) ∙ e)
+  pairs_pass : pairs_checked m.parts m.pairs ≡ Ok tt
+  pairs_pass =
+      let d = passed (refused_if (drawn_lack m) NoDirection) (from_parts m) bodies_pass.1 in
+      (passed (parts_checked m.bodies.count m.parts m.outlines) (pairs_checked m.parts m.pairs) d.1).1
 
   -- the two sides of each pair pass
-  pub accepted-pair : (i : ℕ) → i < m.pairs.count → is_accepted (sides_checked i (side_body m.parts i (pair_at m.pairs i).a) (side_body m.parts i (pair_at m.pairs i).b)) ≡ true
+  pub accepted-pair : (i : ℕ) → i < m.pairs.count → is_ok (sides_checked i (side_body m.parts i (pair_at m.pairs i).a) (side_body m.parts i (pair_at m.pairs i).b)) ≡ true
   unfolding pairs_checked
-  accepted-pair i h = first-none is_accepted Accepted _ m.pairs.count 0 pairs-pass i (omega arith) (omega arith)
+  accepted-pair i h = first-none is_ok (Ok tt) _ m.pairs.count 0 (ap is_ok pairs_pass) i (omega arith) (omega arith)
 
 -- ---- a pose of an accepted description is refused as one of its bodies by themselves
 fits_last : (t : Bool) → refused_if (not t) PoseNotMatching ≡ and_then (refused_if (not t) PoseNotMatching) (and_then (refused_if (not true) NoSuchThing) (refused_if (not true) TooFewRows))
 fits_last true = refl
 fits_last false = refl
 
-pub posed_bodies : (m : Mechanism) (q : List (List Float)) → check_of m ≡ Accepted → bodies_posed m.bodies q ≡ pose_checked m q
+pub posed_bodies : (m : Mechanism) (q : List (List Float)) → check_of m ≡ Ok tt → bodies_posed m.bodies q ≡ pose_checked m q
 posed_bodies m q e =
     ap (λ (c : Checked). and_then c (refused_if (not (eqb (length q) m.bodies.coords)) PoseNotMatching)) (accepted-stand m e)
     ∙ fits_last (eqb (length q) m.bodies.coords)

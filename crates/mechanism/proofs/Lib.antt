@@ -5,3 +5,4 @@ pub mod SameCheck
 pub mod Known
 pub mod SegRows
 pub mod Refusals
+pub mod Walks

@@ -5,14 +5,12 @@ use mathlib.Core.Path.{◌≡◌}
 use mathlib.Core.Bool.{Bool, true, false, cond}
 use lib.Dec.{ltb, eqb}
 use Rattle.laws.specs.Loops.{fold_in, first_in}
-use Rattle.bodies.specs.Check.{number_of, is_accepted, and_then, refused_if, first_refused, misplaced, bodies_checked}
+use Rattle.bodies.specs.Check.{Checked, number_of, and_then, refused_if, first_refused, misplaced, bodies_checked}
 use Rattle.bodies.specs.Description.{body_at}
 use Rattle.bodies.specs.declared.Bodies.{Bodies}
 use Rattle.bodies.specs.declared.Problem.{Problem}
 use Rattle.bodies.specs.declared.Problem.TheVariants.{BodyNotPlaced, NoDirection, PartOnNoSuchBody, OutlineNotClosed, SideOnTwoBodies, PairOnOneBody}
-use Rattle.bodies.specs.declared.Checked.{Checked}
-use Rattle.bodies.specs.declared.Checked.TheVariants.{Accepted, Refused}
-use Rattle.mechanism.specs.Check.{limit_passed, direction_missing, outline_open, part_checked, parts_checked, range_drawn, with_drawn, with_range, side_end, side_body, sides_checked, pairs_checked, check_of}
+use Rattle.mechanism.specs.Check.{limit_passed, direction_missing, outline_open, part_checked, parts_checked, range_drawn, Side, with_drawn, with_range, side_end, side_body, sides_checked, pairs_checked, check_of}
 use Rattle.mechanism.specs.Description.{part_at, pair_at, range_at, start_of_part}
 use Rattle.mechanism.specs.declared.Parts.{Parts}
 use Rattle.mechanism.specs.declared.Outlines.{Outlines}
@@ -20,18 +18,17 @@ use Rattle.mechanism.specs.declared.Pairs.{Pairs}
 use Rattle.mechanism.specs.declared.Mechanism.{Mechanism}
 use Rattle.mechanism.specs.declared.part.Part.{Part}
 use Rattle.mechanism.specs.declared.pair.Surface.{Surface}
-use Rattle.mechanism.specs.declared.check.Side.{Side}
-use Rattle.mechanism.specs.declared.check.Side.TheVariants.{Unknown, On, Wrong}
+use Rattle.std.proofs.Common.{Some, None, Result, Ok, Err, is_ok}
 
 -- ---- checks that do not answer 3
 -- a check accepts, or refuses by another number
 abbrev pub NotThree : Checked → Type 0
-NotThree Accepted = Unit {0}
-NotThree (Refused p) = number_of p ≡ 3 → ⊥
+NotThree (Ok tt) = Unit {0}
+NotThree (Err p) = number_of p ≡ 3 → ⊥
 
 pub then-not : (c next : Checked) → NotThree c → NotThree next → NotThree (and_then c next)
-then-not Accepted next g h = h
-then-not (Refused p) next g h = g
+then-not (Ok tt) next g h = h
+then-not (Err p) next g h = g
 
 pub if_not : (b : Bool) (p : Problem) → (number_of p ≡ 3 → ⊥) → NotThree (refused_if b p)
 if_not true p h = h
@@ -41,53 +38,52 @@ if_not false p h = tt
 first-not : (f : ℕ → Checked) → ((i : ℕ) → NotThree (f i)) → (k j : ℕ) → NotThree (first_refused f k j)
 unfolding first_in
 first-not f h zero j = tt
-first-not f h (suc k) j = go (is_accepted (f j)) (first-not f h k (suc j))
+first-not f h (suc k) j = go (is_ok (f j)) (first-not f h k (suc j))
   where
     go : (b : Bool) → NotThree (first_refused f k (suc j)) → NotThree (cond b (first_refused f k (suc j)) (f j))
     go true r = r
     go false r = h j
 
 -- ---- the body of a side, or a refusal
-abbrev SideNot : Side → Type 0
-SideNot Unknown = Unit {0}
-SideNot (On b) = Unit {0}
-SideNot (Wrong p) = number_of p ≡ 3 → ⊥
+abbrev BodyNot : {A : Type 0} → Result A Problem → Type 0
+BodyNot (Ok a) = Unit {0}
+BodyNot (Err p) = number_of p ≡ 3 → ⊥
 
 -- one range more
-range-not : (pair : ℕ) (s : Side) (drawn : Bool) (b : ℕ) → SideNot s → SideNot (with_drawn pair s drawn b)
-range-not pair Unknown true b h = tt
-range-not pair Unknown false b h = λ e. omega arith
-range-not pair (On a) true b h = go (eqb a b)
+range-not : (pair : ℕ) (s : Side) (drawn : Bool) (b : ℕ) → BodyNot s → BodyNot (with_drawn pair s drawn b)
+range-not pair (Ok s) false b h = λ e. omega arith
+range-not pair (Ok None) true b h = tt
+range-not pair (Ok (Some a)) true b h = go (eqb a b)
   where
-    go : (same : Bool) → SideNot (cond same (On a) (Wrong (SideOnTwoBodies pair)))
+    go : (same : Bool) → BodyNot (cond same (Ok (Some a)) (Err (SideOnTwoBodies pair)))
     go true = tt
     go false = λ e. omega arith
-range-not pair (On a) false b h = λ e. omega arith
-range-not pair (Wrong p) drawn b h = h
+range-not pair (Err p) drawn b h = h
 
-fold_not : (step : Side → ℕ → Side) → ((s : Side) (i : ℕ) → SideNot s → SideNot (step s i)) → (k j : ℕ) (s : Side) → SideNot s → SideNot (fold_in step s k j)
+fold_not : (step : Side → ℕ → Side) → ((s : Side) (i : ℕ) → BodyNot s → BodyNot (step s i)) → (k j : ℕ) (s : Side) → BodyNot s → BodyNot (fold_in step s k j)
 unfolding fold_in
 fold_not step g zero j s h = h
 fold_not step g (suc k) j s h = fold_not step g k (suc j) (step s j) (g s j h)
 
-end-not : (pair : ℕ) (s : Side) → SideNot s → SideNot (side_end pair s)
-end-not pair Unknown h = λ e. omega arith
-end-not pair (On b) h = tt
-end-not pair (Wrong p) h = h
+end-not : (pair : ℕ) (s : Side) → BodyNot s → BodyNot (side_end pair s)
+end-not pair (Ok None) h = λ e. omega arith
+end-not pair (Ok (Some b)) h = tt
+end-not pair (Err p) h = h
 
-side-not : (ps : Parts) (pair : ℕ) (u : Surface) → SideNot (side_body ps pair u)
+side-not : (ps : Parts) (pair : ℕ) (u : Surface) → BodyNot (side_body ps pair u)
 unfolding side_body
-side-not ps pair u = end-not pair (fold_in step Unknown u.count 0) (fold_not step (λ s i h. range-not pair s (range_drawn ps (range_at u i)) (part_at ps (range_at u i).part).body h) u.count 0 Unknown tt)
+side-not ps pair u = end-not pair (fold_in step (Ok None) u.count 0) (fold_not step one u.count 0 (Ok None) tt)
   where
     step : Side → ℕ → Side
     step s i = with_range ps pair s (range_at u i)
 
-sides-not : (pair : ℕ) (a b : Side) → SideNot a → SideNot b → NotThree (sides_checked pair a b)
-sides-not pair Unknown b g h = tt
-sides-not pair (Wrong p) b g h = g
-sides-not pair (On x) Unknown g h = tt
-sides-not pair (On x) (Wrong p) g h = h
-sides-not pair (On x) (On y) g h = if_not (eqb x y) (PairOnOneBody pair) (λ e. omega arith)
+    one : (s : Side) (i : ℕ) → BodyNot s → BodyNot (step s i)
+    one s i h = range-not pair s (range_drawn ps (range_at u i)) (part_at ps (range_at u i).part).body h
+
+sides-not : (pair : ℕ) (a b : Result ℕ Problem) → BodyNot a → BodyNot b → NotThree (sides_checked pair a b)
+sides-not pair (Err p) b g h = g
+sides-not pair (Ok x) (Err p) g h = h
+sides-not pair (Ok x) (Ok y) g h = if_not (eqb x y) (PairOnOneBody pair) (λ e. omega arith)
 
 -- ---- a description
 bodies-not : (b : Bodies) → NotThree (bodies_checked b)

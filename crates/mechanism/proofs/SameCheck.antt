@@ -12,9 +12,7 @@ use lib.Seq.{sets}
 use Rattle.laws.specs.Loops.{any_in, first_in}
 use Rattle.laws.proofs.Choice.{or_yes, cond_no}
 use Rattle.laws.proofs.Sums.{sum-part}
-use Rattle.bodies.specs.Check.{is_accepted, and_then, refused_if, first_refused, bodies_checked, bodies_lack}
-use Rattle.bodies.specs.declared.Checked.{Checked}
-use Rattle.bodies.specs.declared.Checked.TheVariants.{Accepted}
+use Rattle.bodies.specs.Check.{Checked, and_then, refused_if, first_refused, bodies_checked, bodies_lack}
 use Rattle.bodies.specs.declared.Problem.TheVariants.{LimitPassed, NoDirection, PartOnNoSuchBody, OutlineNotClosed}
 use Rattle.mechanism.specs.Description.{part_at, segs_of, start_of_part}
 use Rattle.mechanism.specs.Check.{parts_over, pairs_over, limit_passed, seg_lacks, parts_lack, outlines_lack, seg_open, outline_open, parts_checked, pairs_checked, check_of}
@@ -24,6 +22,7 @@ use Rattle.mechanism.specs.declared.Outlines.{Outlines}
 use Rattle.mechanism.specs.declared.Parts.{Parts}
 use Rattle.mechanism.proofs.Checks.{at-limits}
 use Rattle.mechanism.proofs.SegRows.{put-rows-same}
+use Rattle.std.proofs.Common.{Ok, is_ok}
 
 -- ---- indexes on which two functions agree
 any-range : (p q : ℕ → Bool) (k j : ℕ) → ((i : ℕ) → i < j + k → p i ≡ q i) → any_in p k j ≡ any_in q k j
@@ -35,8 +34,8 @@ first_range : (f g : ℕ → Checked) (k j : ℕ) → ((i : ℕ) → i < j + k �
 unfolding first_in
 first_range f g zero j e = refl
 first_range f g (suc k) j e =
-    ap (λ (c : Checked). cond (is_accepted c) (first_in is_accepted Accepted f k (suc j)) c) (e j (omega arith))
-    ∙ ap (λ (c : Checked). cond (is_accepted (g j)) c (g j)) (first_range f g k (suc j) (λ i h. e i (omega (arith, h))))
+    ap (λ (c : Checked). cond (is_ok c) (first_in is_ok (Ok tt) f k (suc j)) c) (e j (omega arith))
+    ∙ ap (λ (c : Checked). cond (is_ok (g j)) c (g j)) (first_range f g k (suc j) (λ i h. e i (omega (arith, h))))
 
 -- ---- what is asked of the first n segments
 module _ {o o' : Outlines} where

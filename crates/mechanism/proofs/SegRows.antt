@@ -6,13 +6,14 @@ use mathlib.Core.List.{List, [], ◌∷◌, map}
 use mathlib.Core.Bool.{true, cond}
 use lib.Dec.{leb}
 use lib.Ieee.{Float, eq, of_bits}
-use lib.ListN.{length, get_or, take, drop, length-map, drop_of_length-le, get_or-map}
+use lib.ListN.{length, get_or, take, drop, length-map, drop_of_length-le, get_or-map, get_or-eq_default}
 use lib.Seq.{sets, length-sets, length-take-le, get_or-take}
 use borrow.Author.Tests.{leb-true, le-leb}
 use Rattle.laws.proofs.Choice.{both, and_yes, cond_yes}
 use Rattle.laws.proofs.Fill.{map-drop}
 use Rattle.laws.proofs.Lists.{get_d_any}
 use Rattle.laws.proofs.Writing.{sets-taken}
+use Rattle.ieee.proofs.Values.{the_nan}
 use Rattle.geometry.specs.declared.Seg.{Seg}
 use Rattle.geometry.specs.declared.Seg.TheVariants.{Line, Arc}
 use Rattle.mechanism.specs.Description.{no_seg, seg_at}
@@ -37,9 +38,15 @@ row_at rows i =
     ap (λ (b : OutlineSeg). (get_or (map outline_seg_from rows) i b).seg) (sym (ap (λ (s : Seg). record { seg = s }) no_row))
     ∙ ap (λ (b : OutlineSeg). b.seg) (get_or-map outline_seg_from rows i [])
 
+-- past the rows, a line without numbers
+pub past_rows : (rows : List (List Float)) (i : ℕ) → length rows ≤ i → seg_at (outlines_in rows) i ≡ no_seg.seg
+past_rows rows i h = row_at rows i ∙ ap seg_from (get_or-eq_default rows [] h) ∙ no_row
+
 pub rows_long : (rows : List (List Float)) → length (outlines_in rows).seg ≡ length rows
 unfolding outlines_in
 rows_long rows = length-map rows outline_seg_from
+
+pub ruleset segs_read = (row_at, past_rows, the_nan)
 
 -- ---- rows that are written
 module _ (o : Outlines) (n : ℕ) (long : n ≤ length o.seg) where

@@ -29,7 +29,7 @@ use Rattle.mechanism.specs.declared.part.SurfaceRef.{SurfaceRef}
 use Rattle.mechanism.specs.declared.pair.Surface.{Surface}
 use Rattle.mechanism.specs.declared.pair.PairGeometry.TheVariants.{Features}
 use Rattle.bodies.specs.declared.Problem.TheVariants.{BodyNotPlaced, PartOnNoSuchBody, OutlineNotClosed, RangeNotDrawn, PairOnOneBody, PoseNotMatching, NoSuchThing, TooFewRows}
-use Rattle.bodies.specs.declared.Checked.TheVariants.{Accepted, Refused}
+use Rattle.std.proofs.Common.{Ok, Err}
 
 -- ---- the pieces
 -- a body fixed to the parent named
@@ -102,10 +102,10 @@ drawn p q l = record { bodies = bodies (fixed 0 ∷ []); parts = parts (p ∷ q 
 -- ---- bodies
 pub record OfBodies : Type 0 where
   -- bodies 1 and 2 hang from bodies that are not below them: the lowest is named
-  pub lowest : check_of (tree (fixed 1 ∷ fixed 3 ∷ fixed 0 ∷ [])) ≡ Refused (BodyNotPlaced 1)
+  pub lowest : check_of (tree (fixed 1 ∷ fixed 3 ∷ fixed 0 ∷ [])) ≡ Err (BodyNotPlaced 1)
   -- a body that hangs from itself, and one that hangs from the body before it
-  pub own_parent : check_of (tree (fixed 0 ∷ fixed 2 ∷ [])) ≡ Refused (BodyNotPlaced 2)
-  pub just_below : check_of (tree (fixed 0 ∷ fixed 1 ∷ [])) ≡ Accepted
+  pub own_parent : check_of (tree (fixed 0 ∷ fixed 2 ∷ [])) ≡ Err (BodyNotPlaced 2)
+  pub just_below : check_of (tree (fixed 0 ∷ fixed 1 ∷ [])) ≡ Ok tt
 
 pub of-bodies : OfBodies
 unfolding check_of limit_passed parts_over pairs_over bodies_checked bodies_lack parts_lack outlines_lack parts_checked pairs_checked any_in fold_in first_in
@@ -114,10 +114,10 @@ of-bodies = record { lowest = refl; own_parent = refl; just_below = refl }
 -- ---- parts
 pub record OfParts : Type 0 where
   -- 7 of part 0 comes before 6 of part 1
-  pub part_by_part : check_of (drawn (part 1 2 extruded) (part 2 2 extruded) (unclosed ++ closed)) ≡ Refused (OutlineNotClosed 0)
+  pub part_by_part : check_of (drawn (part 1 2 extruded) (part 2 2 extruded) (unclosed ++ closed)) ≡ Err (OutlineNotClosed 0)
   -- of one part 6 comes before 7
-  pub body_first : check_of (drawn (part 2 2 extruded) (part 1 2 extruded) (unclosed ++ closed)) ≡ Refused (PartOnNoSuchBody 0)
-  pub both_closed : check_of (drawn (part 1 2 extruded) (part 1 2 extruded) (closed ++ closed)) ≡ Accepted
+  pub body_first : check_of (drawn (part 2 2 extruded) (part 1 2 extruded) (unclosed ++ closed)) ≡ Err (PartOnNoSuchBody 0)
+  pub both_closed : check_of (drawn (part 1 2 extruded) (part 1 2 extruded) (closed ++ closed)) ≡ Ok tt
 
 pub of_parts : OfParts
 unfolding check_of limit_passed parts_over pairs_over bodies_checked bodies_lack parts_lack outlines_lack outline_open parts_checked pairs_checked any_in fold_in first_in of_bits to_bits
@@ -142,11 +142,11 @@ of-ranges = record { whole = refl; past = refl; whole_turned = refl; past_turned
 -- ---- pairs
 pub record OfPairs : Type 0 where
   -- side A stands on body 1, side B's range passes the silhouette
-  pub not_drawn : check_of (touching 1 1 (side (range 0 0 2)) (side (range 1 0 3))) ≡ Refused (RangeNotDrawn 0)
-  pub on_one_body : check_of (touching 1 1 (side (range 0 0 2)) (side (range 1 0 2))) ≡ Refused (PairOnOneBody 0)
-  pub on_two_bodies : check_of (touching 1 2 (side (range 0 0 2)) (side (range 1 0 2))) ≡ Accepted
+  pub not_drawn : check_of (touching 1 1 (side (range 0 0 2)) (side (range 1 0 3))) ≡ Err (RangeNotDrawn 0)
+  pub on_one_body : check_of (touching 1 1 (side (range 0 0 2)) (side (range 1 0 2))) ≡ Err (PairOnOneBody 0)
+  pub on_two_bodies : check_of (touching 1 2 (side (range 0 0 2)) (side (range 1 0 2))) ≡ Ok tt
   -- a side without ranges
-  pub no_range : check_of (touching 1 2 (side (range 0 0 2)) no_surface) ≡ Refused (RangeNotDrawn 0)
+  pub no_range : check_of (touching 1 2 (side (range 0 0 2)) no_surface) ≡ Err (RangeNotDrawn 0)
 
 pub of-pairs : OfPairs
 unfolding check_of limit_passed parts_over pairs_over bodies_checked bodies_lack parts_lack outlines_lack outline_open parts_checked side_body pairs_checked any_in fold_in first_in of_bits to_bits
@@ -154,11 +154,11 @@ of-pairs = record { not_drawn = refl; on_one_body = refl; on_two_bodies = refl; 
 
 -- ---- calls on a description: 3 to 10 come before 11, 11 before 12, 12 before 13
 pub record OfCalls : Type 0 where
-  pub misplaced : call_checked (tree (fixed 1 ∷ [])) false false false ≡ Refused (BodyNotPlaced 1)
-  pub other_pose : call_checked (tree (fixed 0 ∷ [])) false false false ≡ Refused PoseNotMatching
-  pub unknown : call_checked (tree (fixed 0 ∷ [])) true false false ≡ Refused NoSuchThing
-  pub no_room : call_checked (tree (fixed 0 ∷ [])) true true false ≡ Refused TooFewRows
-  pub answered : call_checked (tree (fixed 0 ∷ [])) true true true ≡ Accepted
+  pub misplaced : call_checked (tree (fixed 1 ∷ [])) false false false ≡ Err (BodyNotPlaced 1)
+  pub other_pose : call_checked (tree (fixed 0 ∷ [])) false false false ≡ Err PoseNotMatching
+  pub unknown : call_checked (tree (fixed 0 ∷ [])) true false false ≡ Err NoSuchThing
+  pub no_room : call_checked (tree (fixed 0 ∷ [])) true true false ≡ Err TooFewRows
+  pub answered : call_checked (tree (fixed 0 ∷ [])) true true true ≡ Ok tt
 
 pub of_calls : OfCalls
 unfolding check_of limit_passed parts_over pairs_over bodies_checked bodies_lack parts_lack outlines_lack parts_checked pairs_checked any_in fold_in first_in

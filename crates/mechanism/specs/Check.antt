@@ -1,5 +1,6 @@
 -- Document 01, "Refused, first that applies": the refusals 3 to 10 of a description as a value. Definitions only.
-use Rattle.std.specs.Prelude.{ℕ, ◌+◌, ◌%◌, ◌<◌, ◌≤◌, Bool, true, false, not, cond, ◌&&◌, ◌||◌, ltb, leb, eqb, Float}
+use Rattle.std.specs.Prelude.{ℕ, ◌+◌, ◌%◌, ◌<◌, ◌≤◌, Bool, false, not, cond, ◌&&◌, ◌||◌, ltb, leb, eqb, Float, Result, Ok, Err, Option, Some, None, ok_or, is_ok, take}
+use Rattle.std.specs.List.{list_any}
 use Rattle.std.specs.Float.Ieee.{is_nan}
 use Rattle.laws.specs.Loops.{any_in, fold_in}
 use Rattle.ieee.specs.Num.{finite, same_of}
@@ -7,7 +8,7 @@ use Rattle.geometry.specs.Geometry.{start_of, end_of}
 use Rattle.geometry.specs.declared.Point.{Point}
 use Rattle.geometry.specs.declared.Seg.{Seg}
 use Rattle.geometry.specs.declared.Seg.TheVariants.{Line, Arc}
-use Rattle.bodies.specs.Check.{and_then, refused_if, first_refused, bodies_checked, dir_lacks, bodies_lack}
+use Rattle.bodies.specs.Check.{Checked, and_then, refused_if, first_refused, bodies_checked, dir_lacks, bodies_lack}
 use Rattle.mechanism.specs.Description.{part_at, pair_at, range_at, seg_at, segs_of, start_of_part, silhouette_length, side_length}
 use Rattle.bodies.specs.declared.Bodies.{Bodies}
 use Rattle.mechanism.specs.declared.Parts.{Parts}
@@ -21,12 +22,7 @@ use Rattle.mechanism.specs.declared.part.SurfaceRef.{SurfaceRef}
 use Rattle.mechanism.specs.declared.pair.Surface.{Surface}
 use Rattle.mechanism.specs.declared.pair.ContactPair.{ContactPair}
 use Rattle.bodies.specs.declared.Problem.TheVariants.{LimitPassed, NoDirection, PartOnNoSuchBody, OutlineNotClosed, RangeNotDrawn, SideOnTwoBodies, PairOnOneBody, PoseNotMatching, NoSuchThing, TooFewRows}
-use Rattle.bodies.specs.declared.Checked.{Checked}
-use Rattle.bodies.specs.declared.Checked.TheVariants.{Accepted, Refused}
-use Rattle.mechanism.specs.declared.FloatAnswer.{FloatAnswer}
-use Rattle.mechanism.specs.declared.FloatAnswer.TheVariants.{IsFloat, NoFloat}
-use Rattle.mechanism.specs.declared.check.Side.{Side}
-use Rattle.mechanism.specs.declared.check.Side.TheVariants.{Unknown, On, Wrong}
+use Rattle.bodies.specs.declared.Problem.{Problem}
 
 -- ---- 3: a count passes its limit
 abbrev pub side_over : Surface → Bool
@@ -59,7 +55,7 @@ seg_lacks (Line a b) = false
 seg_lacks (Arc c r from to) = dir_lacks from || dir_lacks to
 
 unfoldable pub parts_lack : Parts → Bool
-parts_lack p = any_in (λ i. sweep_lacks (part_at p i).sweep) p.count 0
+parts_lack p = list_any (λ q. sweep_lacks q.sweep) (take p.count p.part)
 
 unfoldable pub outlines_lack : Outlines → ℕ → Bool
 outlines_lack o n = any_in (λ i. seg_lacks (seg_at o i)) n 0
@@ -99,39 +95,35 @@ part_draws p r = ltb r.start r.end && leb r.end (silhouette_length p.sweep p.seg
 abbrev pub range_drawn : Parts → SurfaceRef → Bool
 range_drawn ps r = ltb r.part ps.count && part_draws (part_at ps r.part) r
 
--- the side's body so far, and the body of one range more
-abbrev pub with_body : ℕ → Side → ℕ → Side
-with_body pair Unknown b = On b
-with_body pair (On a) b = cond (eqb a b) (On a) (Wrong (SideOnTwoBodies pair))
-with_body pair (Wrong p) b = Wrong p
+-- the body that a side's ranges lie on, as far as they were read; none before the first range
+abbrev pub Side : Type 0
+Side = Result (Option ℕ) Problem
 
-abbrev pub is_wrong : Side → Bool
-is_wrong Unknown = false
-is_wrong (On b) = false
-is_wrong (Wrong p) = true
+-- the side's body so far, and the body of one range more
+abbrev pub with_body : ℕ → Option ℕ → ℕ → Side
+with_body pair None b = Ok (Some b)
+with_body pair (Some a) b = cond (eqb a b) (Ok (Some a)) (Err (SideOnTwoBodies pair))
 
 -- one range more: whether it is drawn, and its part's body
 abbrev pub with_drawn : ℕ → Side → Bool → ℕ → Side
-with_drawn pair s drawn b = cond (is_wrong s) s (cond drawn (with_body pair s b) (Wrong (RangeNotDrawn pair)))
+with_drawn pair (Ok s) drawn b = cond drawn (with_body pair s b) (Err (RangeNotDrawn pair))
+with_drawn pair (Err p) drawn b = Err p
 
 abbrev pub with_range : Parts → ℕ → Side → SurfaceRef → Side
 with_range ps pair s r = with_drawn pair s (range_drawn ps r) (part_at ps r.part).body
 
 -- a side without ranges is not drawn
-abbrev pub side_end : ℕ → Side → Side
-side_end pair Unknown = Wrong (RangeNotDrawn pair)
-side_end pair (On b) = On b
-side_end pair (Wrong p) = Wrong p
+abbrev pub side_end : ℕ → Side → Result ℕ Problem
+side_end pair (Ok s) = ok_or s (RangeNotDrawn pair)
+side_end pair (Err p) = Err p
 
-unfoldable pub side_body : Parts → ℕ → Surface → Side
-side_body ps pair u = side_end pair (fold_in (λ s i. with_range ps pair s (range_at u i)) Unknown u.count 0)
+unfoldable pub side_body : Parts → ℕ → Surface → Result ℕ Problem
+side_body ps pair u = side_end pair (fold_in (λ s i. with_range ps pair s (range_at u i)) (Ok None) u.count 0)
 
-abbrev pub sides_checked : ℕ → Side → Side → Checked
-sides_checked pair Unknown b = Accepted
-sides_checked pair (Wrong p) b = Refused p
-sides_checked pair (On a) Unknown = Accepted
-sides_checked pair (On a) (Wrong p) = Refused p
-sides_checked pair (On a) (On b) = refused_if (eqb a b) (PairOnOneBody pair)
+abbrev pub sides_checked : ℕ → Result ℕ Problem → Result ℕ Problem → Checked
+sides_checked pair (Err p) b = Err p
+sides_checked pair (Ok a) (Err p) = Err p
+sides_checked pair (Ok a) (Ok b) = refused_if (eqb a b) (PairOnOneBody pair)
 
 unfoldable pub pairs_checked : Parts → Pairs → Checked
 pairs_checked ps pairs = first_refused (λ i. sides_checked i (side_body ps i (pair_at pairs i).a) (side_body ps i (pair_at pairs i).b)) pairs.count 0
@@ -159,18 +151,13 @@ abbrev pub call_checked : Mechanism → (fits known room : Bool) → Checked
 call_checked m fits known room = then_called (check_of m) fits known room
 
 -- the answer of a call: a number, or the first refusal that applies
-abbrev pub answer_of : Checked → Float → FloatAnswer
-answer_of Accepted x = IsFloat x
-answer_of (Refused p) x = NoFloat p
+abbrev pub answer_of : Checked → Float → Result Float Problem
+answer_of (Ok tt) x = Ok x
+answer_of (Err p) x = Err p
 
 -- ---- a side that 3, 8 and 9 let pass, and a pair of two such sides
-abbrev pub is_on : Side → Bool
-is_on Unknown = false
-is_on (On b) = true
-is_on (Wrong p) = false
-
 unfoldable pub side_drawn : Parts → Surface → Bool
-side_drawn ps u = (not (parts_over ps) && not (side_over u)) && is_on (side_body ps 0 u)
+side_drawn ps u = (not (parts_over ps) && not (side_over u)) && is_ok (side_body ps 0 u)
 
 abbrev pub pair_drawn : Parts → ContactPair → Bool
 pair_drawn ps p = side_drawn ps p.a && side_drawn ps p.b

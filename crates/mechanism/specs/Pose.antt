@@ -1,11 +1,11 @@
 -- What is refused of a call on a mechanism's pose, columns and bodies. Definitions only.
 use Rattle.std.specs.Prelude.{ℕ, true, ◌&&◌, List, ltb, leb, eqb, length, Float}
 use Rattle.bodies.specs.Pose.{pose_fits}
-use Rattle.bodies.specs.declared.Checked.{Checked}
 use Rattle.bodies.specs.declared.pose.MaterialPoint.{MaterialPoint}
 use Rattle.bodies.specs.declared.pose.Pose.{Pose}
 use Rattle.mechanism.specs.Check.{call_checked}
 use Rattle.mechanism.specs.declared.Mechanism.{Mechanism}
+use Rattle.bodies.specs.Check.{Checked}
 
 -- 3 to 11: one entry a coordinate
 abbrev pub pose_checked : Mechanism → List (List Float) → Checked

@@ -11,23 +11,11 @@ pub enum HowItBears {
     KeyCorner,
 }
 
-#[derive(Clone, Copy)]
-pub enum MaybeSlope {
-    SomeSlope(f64),
-    NoSlope,
-}
-
 // The governing row's gap and point, and the slope of side A's face over side B's, if side B has a straight one.
 #[derive(Clone, Copy)]
 pub struct Bearing {
     pub how: HowItBears,
     pub gap: f64,
     pub point: Point,
-    pub slope: MaybeSlope,
-}
-
-#[derive(Clone, Copy)]
-pub enum MaybeBearing {
-    SomeBearing(Bearing),
-    NoBearing,
+    pub slope: Option<f64>,
 }

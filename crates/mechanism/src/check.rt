@@ -1,17 +1,16 @@
 // The refusals of a description as a value (document 01, "Refused, first that applies", 3 to 10).
-ghost use Rattle.std.specs.Prelude.{◌≡◌, not, ◌||◌, ◌+◌, ◌≤◌, ◌<◌};
+ghost use Rattle.std.specs.Prelude.{◌≡◌, ◌||◌, ◌+◌, ◌≤◌, ◌<◌, is_ok};
 ghost use Rattle.mechanism.specs.Description.{start_of_part, silhouette_length, range_length, turned_length};
-ghost use Rattle.bodies.specs.Check.{is_accepted};
 ghost use Rattle.mechanism.specs.Segments.{outlines_in, described, segs_counted};
-ghost use Rattle.mechanism.specs.Check.{side_over, pair_over, parts_over, pairs_over, limits_passed, sweep_lacks, seg_lacks, parts_lack, outlines_lack, point_finite, same_point, seg_open, outline_open, part_checked, parts_checked, part_draws, is_wrong, with_body, with_drawn, side_end, side_body, sides_checked, pairs_checked, check_of, then_called, call_checked, is_on, side_drawn, pair_drawn, FewParts, FewPairs};
+ghost use Rattle.mechanism.specs.Check.{side_over, pair_over, parts_over, pairs_over, limits_passed, sweep_lacks, seg_lacks, parts_lack, outlines_lack, point_finite, same_point, seg_open, outline_open, part_checked, parts_checked, part_draws, range_drawn, with_body, side_body, sides_checked, pairs_checked, check_of, then_called, call_checked, side_drawn, pair_drawn, FewParts, FewPairs};
 
 use super::pair::{ContactPair, Surface};
 use super::part::{Part, SurfaceRef, Sweep};
 use super::segments::{SegRow, put_segs, seg_at};
 use super::{Mechanism, Pairs, Parts};
 use bodies::check::{bodies_stand, dir_lacks};
-use bodies::{Bodies, Body, Checked, Problem};
-use geometry::{Dir, Point, Seg};
+use bodies::{Bodies, Problem};
+use geometry::{Point, Seg};
 use ieee::num::{is_finite, is_nan, same};
 
 // ---- 3: a count passes its limit
@@ -19,72 +18,61 @@ use ieee::num::{is_finite, is_nan, same};
 fn range_length(r: SurfaceRef) -> usize
     ensures { result ≡ range_length r }
 {
-    if r.start < r.end { r.end - r.start } else { 0 }
+    r.end.saturating_sub(r.start)
 }
 
+#[tactic(auto, using(bodies::proofs::Turns::fold_turns))]
 fn side_over(u: Surface) -> bool
     ensures { result ≡ side_over u }
 {
-    let n = u.count;
-    if 4 < n {
+    if u.count > 4 {
         return true;
     }
     let mut total: usize = 0;
-    let mut i: usize = 0;
-    while i < n {
-        let r = u.range[i];
-        let k = range_length(r);
-        i += 1;
-        if 12 < k {
+    for i in 0..u.count {
+        let k = range_length(u.range[i]);
+        if k > 12 {
             return true;
         }
         total += k;
     }
-    12 < total
+    total > 12
 }
 
 fn pair_over(p: ContactPair) -> bool
     ensures { result ≡ pair_over p }
 {
-    let a = p.a;
-    let b = p.b;
-    side_over(a) | side_over(b)
+    side_over(p.a) || side_over(p.b)
 }
 
 // Whether there are too many parts, or too many segments in one of them or in all.
+#[tactic(auto, unfolding(crate::specs::Check::parts_over), using(bodies::proofs::Turns::any_turns, bodies::proofs::Turns::fold_turns))]
 pub fn parts_over(p: Parts) -> bool
     ensures { result ≡ parts_over p }
 {
-    let n = p.count;
-    if 32 < n {
+    if p.count > 32 {
         return true;
     }
     let mut total: usize = 0;
-    let mut i: usize = 0;
-    while i < n {
-        let q = p.part[i];
-        let k = q.segs;
-        i += 1;
-        if 48 < k {
+    for i in 0..p.count {
+        let k = p.part[i].segs;
+        if k > 48 {
             return true;
         }
         total += k;
     }
-    384 < total
+    total > 384
 }
 
+#[tactic(auto, unfolding(crate::specs::Check::pairs_over), using(bodies::proofs::Turns::any_turns))]
 fn pairs_over(p: Pairs) -> bool
     ensures { result ≡ pairs_over p }
 {
-    let n = p.count;
-    if 16 < n {
+    if p.count > 16 {
         return true;
     }
-    let mut i: usize = 0;
-    while i < n {
-        let q = p.pair[i];
-        i += 1;
-        if pair_over(q) {
+    for i in 0..p.count {
+        if pair_over(p.pair[i]) {
             return true;
         }
     }
@@ -94,7 +82,7 @@ fn pairs_over(p: Pairs) -> bool
 fn limit_passed(b: Bodies, p: Parts, q: Pairs) -> bool
     ensures { result ≡ limits_passed b p q }
 {
-    ((15 < b.count) | (16 < b.coords)) | (parts_over(p) | pairs_over(q))
+    b.count > 15 || b.coords > 16 || parts_over(p) || pairs_over(q)
 }
 
 // ---- 5: an arc's direction has no `Dir::new`, or a revolved axis is NaN
@@ -103,13 +91,8 @@ fn sweep_lacks(s: Sweep) -> bool
     ensures { result ≡ sweep_lacks s }
 {
     match s {
-        Sweep::Extruded {
-            width: _,
-            across: _,
-        } => false,
         Sweep::Revolved { axis } => is_nan(axis),
-        Sweep::Milled { width: _ } => false,
-        Sweep::Oval { width: _ } => false,
+        Sweep::Extruded { .. } | Sweep::Milled { .. } | Sweep::Oval { .. } => false,
     }
 }
 
@@ -117,41 +100,25 @@ fn seg_lacks(s: Seg) -> bool
     ensures { result ≡ seg_lacks s }
 {
     match s {
-        Seg::Line { a: _, b: _ } => false,
-        Seg::Arc {
-            c: _,
-            r: _,
-            from,
-            to,
-        } => dir_lacks(from) | dir_lacks(to),
+        Seg::Line { .. } => false,
+        Seg::Arc { from, to, .. } => dir_lacks(from) || dir_lacks(to),
     }
 }
 
+#[tactic(auto, unfolding(crate::specs::Check::parts_lack))]
 fn parts_lack(p: Parts) -> bool
     requires { p.count ≤ 32 }
     ensures { result ≡ parts_lack p }
 {
-    let n = p.count;
-    let mut i: usize = 0;
-    while i < n {
-        let q = p.part[i];
-        let s = q.sweep;
-        i += 1;
-        if sweep_lacks(s) {
-            return true;
-        }
-    }
-    false
+    p.part[..p.count].iter().any(|q| sweep_lacks(q.sweep))
 }
 
+#[tactic(auto, unfolding(crate::specs::Check::outlines_lack), using(bodies::proofs::Turns::any_turns))]
 fn outlines_lack(segs: &[SegRow], n: usize) -> bool
     ensures { result ≡ outlines_lack (outlines_in segs.now) n }
 {
-    let mut i: usize = 0;
-    while i < n {
-        let s = seg_at(segs, i);
-        i += 1;
-        if seg_lacks(s) {
+    for i in 0..n {
+        if seg_lacks(seg_at(segs, i)) {
             return true;
         }
     }
@@ -163,14 +130,14 @@ fn outlines_lack(segs: &[SegRow], n: usize) -> bool
 fn point_finite(p: Point) -> bool
     ensures { result ≡ point_finite p }
 {
-    is_finite(p.x) & is_finite(p.y)
+    is_finite(p.x) && is_finite(p.y)
 }
 
 // Bit for bit, two NaNs being the same.
 pub fn same_point(p: Point, q: Point) -> bool
     ensures { result ≡ same_point p q }
 {
-    same(p.x, q.x) & same(p.y, q.y)
+    same(p.x, q.x) && same(p.y, q.y)
 }
 
 // Whether a segment is not finite, or does not end where the next begins.
@@ -179,10 +146,11 @@ fn is_open(s: Seg, next: Seg) -> bool
 {
     let a = s.start();
     let b = s.end();
-    !((point_finite(a) & point_finite(b)) & same_point(b, next.start()))
+    !(point_finite(a) && point_finite(b) && same_point(b, next.start()))
 }
 
 // Whether of the n segments from `at` on there are fewer than two, or one is open.
+#[tactic(auto, unfolding(crate::specs::Check::outline_open), using(bodies::proofs::Turns::any_turns))]
 fn outline_open(segs: &[SegRow], at: usize, n: usize) -> bool
     requires { (at + n ≤ 384) × (n ≤ 48) }
     ensures { result ≡ outline_open (outlines_in segs.now) at n }
@@ -190,68 +158,41 @@ fn outline_open(segs: &[SegRow], at: usize, n: usize) -> bool
     if n < 2 {
         return true;
     }
-    let mut i: usize = 0;
-    while i < n {
-        let k = (i + 1) % n;
-        let open = is_open(seg_at(segs, at + i), seg_at(segs, at + k));
-        i += 1;
-        if open {
+    for i in 0..n {
+        if is_open(seg_at(segs, at + i), seg_at(segs, at + (i + 1) % n)) {
             return true;
         }
     }
     false
 }
 
-fn part_checked(bodies: usize, segs: &[SegRow], p: Part, at: usize, i: usize) -> Checked
+fn part_checked(bodies: usize, segs: &[SegRow], p: Part, at: usize, i: usize) -> Result<(), Problem>
     requires { (at + p.segs ≤ 384) × (p.segs ≤ 48) }
     ensures { result ≡ part_checked bodies (outlines_in segs.now) p at i }
 {
-    if bodies < p.body {
-        return Checked::Refused(Problem::PartOnNoSuchBody { part: i });
+    if p.body > bodies {
+        return Err(Problem::PartOnNoSuchBody { part: i });
     }
     if outline_open(segs, at, p.segs) {
-        return Checked::Refused(Problem::OutlineNotClosed { part: i });
+        return Err(Problem::OutlineNotClosed { part: i });
     }
-    Checked::Accepted
+    Ok(())
 }
 
-fn is_refused(c: Checked) -> bool
-    ensures { result ≡ not (is_accepted c) }
-{
-    match c {
-        Checked::Accepted => false,
-        Checked::Refused(_) => true,
-    }
-}
-
-fn parts_checked(bodies: usize, p: Parts, segs: &[SegRow]) -> Checked
+#[tactic(auto, unfolding(crate::specs::Check::parts_checked), using(crate::proofs::Walks::part_turns))]
+fn parts_checked(bodies: usize, p: Parts, segs: &[SegRow]) -> Result<(), Problem>
     requires { FewParts p }
     ensures { result ≡ parts_checked bodies p (outlines_in segs.now) }
 {
-    let n = p.count;
     let mut at: usize = 0;
-    let mut i: usize = 0;
-    while i < n {
-        let q = p.part[i];
-        let c = part_checked(bodies, segs, q, at, i);
-        at += q.segs;
-        i += 1;
-        if is_refused(c) {
-            return c;
-        }
+    for i in 0..p.count {
+        part_checked(bodies, segs, p.part[i], at, i)?;
+        at += p.part[i].segs;
     }
-    Checked::Accepted
+    Ok(())
 }
 
 // ---- 8 to 10, pair by pair
-
-// The body that a side's ranges lie on, as far as they were read.
-#[derive(Clone, Copy)]
-enum Side {
-    Unknown,
-    On(usize),
-    Wrong(Problem),
-}
 
 // How many segments a silhouette has whose outline has n.
 fn silhouette_length(s: Sweep, n: usize) -> usize
@@ -259,13 +200,8 @@ fn silhouette_length(s: Sweep, n: usize) -> usize
     ensures { result ≡ silhouette_length s n }
 {
     match s {
-        Sweep::Extruded {
-            width: _,
-            across: _,
-        } => n,
-        Sweep::Revolved { axis: _ } => turned_length(n),
-        Sweep::Milled { width: _ } => n,
-        Sweep::Oval { width: _ } => n,
+        Sweep::Revolved { .. } => turned_length(n),
+        Sweep::Extruded { .. } | Sweep::Milled { .. } | Sweep::Oval { .. } => n,
     }
 }
 
@@ -273,7 +209,7 @@ fn turned_length(n: usize) -> usize
     requires { n ≤ 48 }
     ensures { result ≡ turned_length n }
 {
-    if n == 0 { 0 } else { (n - 1) + (n - 1) }
+    2 * n.saturating_sub(1)
 }
 
 // Whether a range holds a segment of the part's silhouette and stays within it.
@@ -281,155 +217,82 @@ fn part_draws(p: Part, r: SurfaceRef) -> bool
     requires { p.segs ≤ 48 }
     ensures { result ≡ part_draws p r }
 {
-    let s = p.sweep;
-    (r.start < r.end) & (r.end <= silhouette_length(s, p.segs))
+    r.start < r.end && r.end <= silhouette_length(p.sweep, p.segs)
 }
 
-fn is_wrong(s: Side) -> bool
-    ensures { result ≡ is_wrong s }
+// The same where there may be no such part.
+fn range_drawn(ps: Parts, r: SurfaceRef) -> bool
+    requires { FewParts ps }
+    ensures { result ≡ range_drawn ps r }
 {
-    match s {
-        Side::Unknown => false,
-        Side::On(_) => false,
-        Side::Wrong(_) => true,
-    }
+    r.part < ps.count && part_draws(ps.part[r.part], r)
 }
 
-fn with_body(pair: usize, s: Side, body: usize) -> Side
+// The body of a side's ranges so far, and of one range more.
+fn with_body(pair: usize, s: Option<usize>, body: usize) -> Result<Option<usize>, Problem>
     ensures { result ≡ with_body pair s body }
 {
     match s {
-        Side::Unknown => Side::On(body),
-        Side::On(b) => {
-            if b == body {
-                Side::On(b)
-            } else {
-                Side::Wrong(Problem::SideOnTwoBodies { pair })
-            }
-        }
-        Side::Wrong(p) => Side::Wrong(p),
+        Some(b) if b != body => Err(Problem::SideOnTwoBodies { pair }),
+        _ => Ok(Some(body)),
     }
 }
 
-// The side's body so far with one range more: whether it is drawn, and the body of its part.
-fn with_drawn(pair: usize, s: Side, drawn: bool, body: usize) -> Side
-    ensures { result ≡ with_drawn pair s drawn body }
-{
-    if is_wrong(s) {
-        return s;
-    }
-    if drawn {
-        return with_body(pair, s, body);
-    }
-    Side::Wrong(Problem::RangeNotDrawn { pair })
-}
-
-// A range more, of the part p.
-fn with_part(pair: usize, s: Side, p: Part, r: SurfaceRef) -> Side
-    requires { p.segs ≤ 48 }
-    ensures { result ≡ with_drawn pair s (part_draws p r) p.body }
-{
-    with_drawn(pair, s, part_draws(p, r), p.body)
-}
-
-fn side_end(pair: usize, s: Side) -> Side
-    ensures { result ≡ side_end pair s }
-{
-    match s {
-        Side::Unknown => Side::Wrong(Problem::RangeNotDrawn { pair }),
-        Side::On(b) => Side::On(b),
-        Side::Wrong(p) => Side::Wrong(p),
-    }
-}
-
-fn side_body(ps: Parts, pair: usize, u: Surface) -> Side
+// The body that a side's ranges lie on.
+#[tactic(auto, unfolding(crate::specs::Check::side_body), using(bodies::proofs::Turns::fold_turns))]
+fn side_body(ps: Parts, pair: usize, u: Surface) -> Result<usize, Problem>
     requires { FewParts ps × (u.count ≤ 4) }
     ensures { result ≡ side_body ps pair u }
 {
-    let n = u.count;
-    let parts = ps.count;
-    let mut s = Side::Unknown;
-    let mut i: usize = 0;
-    while i < n {
+    let mut body = None;
+    for i in 0..u.count {
         let r = u.range[i];
-        let k = r.part;
-        i += 1;
-        if k < parts {
-            let p = ps.part[k];
-            s = with_part(pair, s, p, r);
-        } else {
-            // No such part, so that the range is not drawn.
-            s = with_drawn(pair, s, false, 0);
+        if !range_drawn(ps, r) {
+            return Err(Problem::RangeNotDrawn { pair });
         }
+        body = with_body(pair, body, ps.part[r.part].body)?;
     }
-    side_end(pair, s)
+    body.ok_or(Problem::RangeNotDrawn { pair })
 }
 
-fn sides_checked(pair: usize, a: Side, b: Side) -> Checked
-    ensures { result ≡ sides_checked pair a b }
-{
-    match a {
-        Side::Unknown => Checked::Accepted,
-        Side::Wrong(p) => Checked::Refused(p),
-        Side::On(x) => match b {
-            Side::Unknown => Checked::Accepted,
-            Side::Wrong(x) => Checked::Refused(x),
-            Side::On(y) => {
-                if x == y {
-                    Checked::Refused(Problem::PairOnOneBody { pair })
-                } else {
-                    Checked::Accepted
-                }
-            }
-        },
-    }
-}
-
-fn pair_checked(ps: Parts, q: ContactPair, i: usize) -> Checked
+fn pair_checked(ps: Parts, q: ContactPair, i: usize) -> Result<(), Problem>
     requires { FewParts ps × (q.a.count ≤ 4) × (q.b.count ≤ 4) }
     ensures { result ≡ sides_checked i (side_body ps i q.a) (side_body ps i q.b) }
 {
-    let a = q.a;
-    let b = q.b;
-    sides_checked(i, side_body(ps, i, a), side_body(ps, i, b))
+    if side_body(ps, i, q.a)? == side_body(ps, i, q.b)? {
+        return Err(Problem::PairOnOneBody { pair: i });
+    }
+    Ok(())
 }
 
-fn pairs_checked(ps: Parts, pairs: Pairs) -> Checked
+#[tactic(auto, unfolding(crate::specs::Check::pairs_checked), using(bodies::proofs::Turns::first_turns))]
+fn pairs_checked(ps: Parts, pairs: Pairs) -> Result<(), Problem>
     requires { FewParts ps × FewPairs pairs }
     ensures { result ≡ pairs_checked ps pairs }
 {
-    let n = pairs.count;
-    let mut i: usize = 0;
-    while i < n {
-        let q = pairs.pair[i];
-        let c = pair_checked(ps, q, i);
-        i += 1;
-        if is_refused(c) {
-            return c;
-        }
+    for i in 0..pairs.count {
+        pair_checked(ps, pairs.pair[i], i)?;
     }
-    Checked::Accepted
+    Ok(())
 }
 
 // ---- the whole
 
 // How many segments all outlines have.
+#[tactic(auto, using(bodies::proofs::Turns::fold_turns))]
 fn segs_in_all(p: Parts) -> usize
     requires { FewParts p }
     ensures { result ≡ start_of_part p p.count }
 {
-    let n = p.count;
     let mut total: usize = 0;
-    let mut i: usize = 0;
-    while i < n {
-        let q = p.part[i];
-        total += q.segs;
-        i += 1;
+    for i in 0..p.count {
+        total += p.part[i].segs;
     }
     total
 }
 
 // How many segments the parts have; none where they pass a limit.
+#[tactic(auto, using(crate::proofs::Checks::parts_counted))]
 pub fn segs_counted(p: Parts) -> usize
     ensures { (result ≡ segs_counted p) × (result ≤ 384) }
 {
@@ -444,95 +307,78 @@ fn direction_missing(p: Parts, segs: &[SegRow]) -> bool
     requires { FewParts p }
     ensures { result ≡ parts_lack p || outlines_lack (outlines_in segs.now) (start_of_part p p.count) }
 {
-    parts_lack(p) | outlines_lack(segs, segs_in_all(p))
+    parts_lack(p) || outlines_lack(segs, segs_in_all(p))
 }
 
 // Whether a description whose outlines stand in rows is accepted, or the first refusal that applies.
-pub fn check_in(b: Bodies, p: Parts, segs: &[SegRow], q: Pairs) -> Checked
+#[tactic(auto, unfolding(crate::specs::Check::limit_passed), using(crate::proofs::Checks::check_is, crate::proofs::Checks::parts_within, crate::proofs::Checks::pairs_within))]
+pub fn check_in(b: Bodies, p: Parts, segs: &[SegRow], q: Pairs) -> Result<(), Problem>
     ensures { result ≡ check_of (described b p segs.now q) }
 {
     if limit_passed(b, p, q) {
-        return Checked::Refused(Problem::LimitPassed);
+        return Err(Problem::LimitPassed);
     }
-    let placed = bodies_stand(b);
-    if is_refused(placed) {
-        return placed;
-    }
+    bodies_stand(b)?;
     if direction_missing(p, segs) {
-        return Checked::Refused(Problem::NoDirection);
+        return Err(Problem::NoDirection);
     }
-    let drawn = parts_checked(b.count, p, segs);
-    if is_refused(drawn) {
-        return drawn;
-    }
+    parts_checked(b.count, p, segs)?;
     pairs_checked(p, q)
 }
 
 // Whether a description is accepted, or the first refusal that applies.
-pub fn check(m: Mechanism) -> Checked
+pub fn check(m: Mechanism) -> Result<(), Problem>
     ensures { result ≡ check_of m }
 {
-    let b = m.bodies;
-    let p = m.parts;
-    let o = m.outlines;
-    let q = m.pairs;
     let mut segs = [[0.0; 8]; 384];
-    put_segs(&mut segs, o, segs_counted(p));
-    check_in(b, p, &segs, q)
+    put_segs(&mut segs, m.outlines, segs_counted(m.parts));
+    check_in(m.bodies, m.parts, &segs, m.pairs)
 }
 
 // Document 01's list for a call, behind the check c of the description: 11 where the pose does not fit, 12 where something named is not there, 13 where the lent rows have
 // no room.
-pub fn then_called(c: Checked, fits: bool, known: bool, room: bool) -> Checked
+pub fn then_called(
+    c: Result<(), Problem>,
+    fits: bool,
+    known: bool,
+    room: bool,
+) -> Result<(), Problem>
     ensures { result ≡ then_called c fits known room }
 {
-    if is_refused(c) {
-        return c;
-    }
+    c?;
     if !fits {
-        return Checked::Refused(Problem::PoseNotMatching);
+        return Err(Problem::PoseNotMatching);
     }
     if !known {
-        return Checked::Refused(Problem::NoSuchThing);
+        return Err(Problem::NoSuchThing);
     }
     if !room {
-        return Checked::Refused(Problem::TooFewRows);
+        return Err(Problem::TooFewRows);
     }
-    Checked::Accepted
+    Ok(())
 }
 
 // The whole list for a call on a description: 3 to 10, then 11 to 13.
-pub fn call_checked(m: Mechanism, fits: bool, known: bool, room: bool) -> Checked
+pub fn call_checked(m: Mechanism, fits: bool, known: bool, room: bool) -> Result<(), Problem>
     ensures { result ≡ call_checked m fits known room }
 {
     then_called(check(m), fits, known, room)
 }
 
-fn is_on(s: Side) -> bool
-    ensures { result ≡ is_on s }
-{
-    match s {
-        Side::Unknown => false,
-        Side::On(_) => true,
-        Side::Wrong(_) => false,
-    }
-}
-
 // Whether a side passes no limit, and its ranges are drawn and lie on one body.
+#[tactic(auto, unfolding(crate::specs::Check::side_drawn))]
 pub fn side_drawn(ps: Parts, u: Surface) -> bool
     ensures { result ≡ side_drawn ps u }
 {
-    if !parts_over(ps) & !side_over(u) {
-        return is_on(side_body(ps, 0, u));
+    if parts_over(ps) || side_over(u) {
+        return false;
     }
-    false
+    side_body(ps, 0, u).is_ok()
 }
 
 // The same of both sides of a pair.
 pub fn pair_drawn(ps: Parts, p: ContactPair) -> bool
     ensures { result ≡ pair_drawn ps p }
 {
-    let a = p.a;
-    let b = p.b;
-    side_drawn(ps, a) & side_drawn(ps, b)
+    side_drawn(ps, p.a) && side_drawn(ps, p.b)
 }

@@ -20,12 +20,7 @@ impl Piece {
     pub fn is_disc(self) -> bool
         ensures { result ≡ is_disc self }
     {
-        match self {
-            Piece::Segment { part: _, seg: _ } => false,
-            Piece::Arc { part: _, seg: _ } => true,
-            Piece::Vertex { part: _, seg: _ } => true,
-            Piece::Center { part: _ } => false,
-        }
+        matches!(self, Piece::Arc { .. } | Piece::Vertex { .. })
     }
 }
 
@@ -41,10 +36,10 @@ pub fn letter(p: Piece) -> usize
     ensures { result ≡ letter_of p }
 {
     match p {
-        Piece::Segment { part: _, seg: _ } => 0,
-        Piece::Arc { part: _, seg: _ } => 1,
-        Piece::Vertex { part: _, seg: _ } => 2,
-        Piece::Center { part: _ } => 3,
+        Piece::Segment { .. } => 0,
+        Piece::Arc { .. } => 1,
+        Piece::Vertex { .. } => 2,
+        Piece::Center { .. } => 3,
     }
 }
 
@@ -52,10 +47,10 @@ pub fn part(p: Piece) -> usize
     ensures { result ≡ part_of p }
 {
     match p {
-        Piece::Segment { part, seg: _ } => part,
-        Piece::Arc { part, seg: _ } => part,
-        Piece::Vertex { part, seg: _ } => part,
-        Piece::Center { part } => part,
+        Piece::Segment { part, .. }
+        | Piece::Arc { part, .. }
+        | Piece::Vertex { part, .. }
+        | Piece::Center { part } => part,
     }
 }
 
@@ -63,9 +58,7 @@ pub fn seg(p: Piece) -> usize
     ensures { result ≡ seg_of p }
 {
     match p {
-        Piece::Segment { part: _, seg } => seg,
-        Piece::Arc { part: _, seg } => seg,
-        Piece::Vertex { part: _, seg } => seg,
-        Piece::Center { part: _ } => 0,
+        Piece::Segment { seg, .. } | Piece::Arc { seg, .. } | Piece::Vertex { seg, .. } => seg,
+        Piece::Center { .. } => 0,
     }
 }

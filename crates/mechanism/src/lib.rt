@@ -11,7 +11,7 @@ pub mod pose;
 pub mod rows;
 pub mod segments;
 
-use bodies::{Bodies, Problem};
+use bodies::Bodies;
 use pair::ContactPair;
 use part::{OutlineSeg, Part};
 
@@ -40,11 +40,4 @@ pub struct Mechanism {
     pub parts: Parts,
     pub outlines: Outlines,
     pub pairs: Pairs,
-}
-
-// A number, or the first refusal that applies.
-#[derive(Clone, Copy)]
-pub enum FloatAnswer {
-    IsFloat(f64),
-    NoFloat(Problem),
 }

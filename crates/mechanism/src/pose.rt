@@ -5,10 +5,9 @@ ghost use Rattle.mechanism.specs.Pose.{pose_checked, jacobian_checked, body_chec
 
 use super::Mechanism;
 use super::check::check;
-use bodies::pose::{
-    BodyAnswer, Lent, MaterialPoint, PointAnswer, Pose, Posed, column_for, no_pose,
-};
-use bodies::{Bodies, Body, Checked, Joint, Problem};
+use bodies::pose::{Lent, MaterialPoint, Pose, column_for};
+use bodies::{Bodies, Body, Joint, Problem};
+use geometry::Point;
 
 // Body n, the ground being body 0.
 fn body_numbered(b: Bodies, n: usize) -> Body
@@ -26,53 +25,37 @@ fn body_numbered(b: Bodies, n: usize) -> Body
 
 impl Mechanism {
     // Places every body for the lent entries: the value, the sine and the cosine of each coordinate.
-    pub fn pose(self, q: &[Lent]) -> Posed
+    #[tactic(auto, using(crate::proofs::Checks::posed_bodies))]
+    pub fn pose(self, q: &[Lent]) -> Result<Pose, Problem>
         ensures { result ≡ posed_of (pose_checked self q.now) self.bodies q.now }
     {
-        let c = check(self);
-        match c {
-            Checked::Refused(p) => no_pose(p),
-            Checked::Accepted => {
-                let b = self.bodies;
-                b.pose(q)
-            }
-        }
+        check(self)?;
+        self.bodies.pose(q)
     }
 
     // How fast a material point moves in the world with a coordinate.
-    pub fn jacobian_column(self, q: Pose, p: MaterialPoint, coord: usize) -> PointAnswer
+    pub fn jacobian_column(self, q: Pose, p: MaterialPoint, coord: usize) -> Result<Point, Problem>
         ensures { result ≡ jacobian_of (jacobian_checked self q p coord) self.bodies q p coord }
     {
-        let c = check(self);
-        match c {
-            Checked::Refused(x) => PointAnswer::NoPoint(x),
-            Checked::Accepted => {
-                let b = self.bodies;
-                if q.count != b.count + 1 {
-                    return PointAnswer::NoPoint(Problem::PoseNotMatching);
-                }
-                if (p.body <= b.count) & (coord < b.coords) {
-                    return PointAnswer::IsPoint(column_for(b, q, p, coord));
-                }
-                PointAnswer::NoPoint(Problem::NoSuchThing)
-            }
+        check(self)?;
+        if !q.fits(self.bodies) {
+            return Err(Problem::PoseNotMatching);
         }
+        if self.bodies.count < p.body || self.bodies.coords <= coord {
+            return Err(Problem::NoSuchThing);
+        }
+        Ok(column_for(self.bodies, q, p, coord))
     }
 
     // One body by its number.
-    pub fn body(self, n: usize) -> BodyAnswer
+    #[tactic(auto, using(crate::proofs::Checks::accepted_bodies))]
+    pub fn body(self, n: usize) -> Result<Body, Problem>
         ensures { result ≡ body_answer (body_checked_at self n) self.bodies n }
     {
-        let c = check(self);
-        match c {
-            Checked::Refused(x) => BodyAnswer::NoBody(x),
-            Checked::Accepted => {
-                let b = self.bodies;
-                if b.count < n {
-                    return BodyAnswer::NoBody(Problem::NoSuchThing);
-                }
-                BodyAnswer::IsBody(body_numbered(b, n))
-            }
+        check(self)?;
+        if self.bodies.count < n {
+            return Err(Problem::NoSuchThing);
         }
+        Ok(body_numbered(self.bodies, n))
     }
 }

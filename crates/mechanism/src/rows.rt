@@ -25,32 +25,29 @@ pub type Place = [usize; 7];
 pub type Value = [f64; 5];
 
 impl Row {
+    // Where its two pieces meet.
+    fn proximity(self) -> Proximity
+        ensures { result ≡ proximity_of self }
+    {
+        Proximity {
+            gap: self.gap,
+            normal: self.normal,
+            point: self.point,
+        }
+    }
+
     // Where side A's surface is, in the world.
     pub fn on_a(self) -> Point
         ensures { result ≡ on_a (proximity_of self) }
     {
-        let normal = self.normal;
-        let point = self.point;
-        let near = Proximity {
-            gap: self.gap,
-            normal,
-            point,
-        };
-        near.on_a()
+        self.proximity().on_a()
     }
 
     // Where side B's surface is.
     pub fn on_b(self) -> Point
         ensures { result ≡ on_b (proximity_of self) }
     {
-        let normal = self.normal;
-        let point = self.point;
-        let near = Proximity {
-            gap: self.gap,
-            normal,
-            point,
-        };
-        near.on_b()
+        self.proximity().on_b()
     }
 }
 
@@ -58,16 +55,12 @@ impl Row {
 pub fn piece_from(letter: usize, part: usize, seg: usize) -> Piece
     ensures { result ≡ piece_in letter part seg }
 {
-    if letter == 0 {
-        return Piece::Segment { part, seg };
+    match letter {
+        0 => Piece::Segment { part, seg },
+        1 => Piece::Arc { part, seg },
+        2 => Piece::Vertex { part, seg },
+        _ => Piece::Center { part },
     }
-    if letter == 1 {
-        return Piece::Arc { part, seg };
-    }
-    if letter == 2 {
-        return Piece::Vertex { part, seg };
-    }
-    Piece::Center { part }
 }
 
 // The row that stands in lent arrays as these two.

@@ -5,7 +5,6 @@ ghost use Rattle.mechanism.specs.Description.{seg_at};
 ghost use Rattle.mechanism.specs.Segments.{seg_row, seg_from, outlines_in, seg_rows, segs_fit};
 
 use super::Outlines;
-use super::part::OutlineSeg;
 use geometry::{Dir, Point, Seg};
 
 // A segment: 0 and a line's two ends, or 1 and an arc's centre, radius and two directions.
@@ -20,6 +19,7 @@ pub fn seg_row(s: Seg) -> SegRow
     }
 }
 
+#[tactic(auto, unfolding(crate::specs::Segments::seg_from))]
 pub fn seg_from(r: SegRow) -> Seg
     ensures { result ≡ seg_from r }
 {
@@ -38,17 +38,18 @@ pub fn seg_from(r: SegRow) -> Seg
 }
 
 // Segment i; where there is no such row, a line without numbers.
+#[tactic(auto, using(crate::proofs::SegRows::segs_read))]
 pub fn seg_at(segs: &[SegRow], i: usize) -> Seg
     ensures { result ≡ seg_at (outlines_in segs.now) i }
 {
     if i < segs.len() {
         return seg_from(segs[i]);
     }
-    let nan = 0.0 / 0.0;
-    Seg::Line {
-        a: Point { x: nan, y: nan },
-        b: Point { x: nan, y: nan },
-    }
+    let none = Point {
+        x: f64::NAN,
+        y: f64::NAN,
+    };
+    Seg::Line { a: none, b: none }
 }
 
 // Writes the first n rows of an array that has room for them.
@@ -56,27 +57,22 @@ fn put_rows(out: &mut [SegRow], o: Outlines, n: usize)
     requires { (n ≤ 384) × (n ≤ length out.old) }
     ensures { out.new ≡ sets out.old 0 (seg_rows o n) }
 {
-    let mut i: usize = 0;
-    while i < n {
-        let b = o.seg[i];
-        let s = b.seg;
-        out[i] = seg_row(s);
-        i += 1;
+    for i in 0..n {
+        out[i] = seg_row(o.seg[i].seg);
     }
 }
 
 fn segs_fit(n: usize, room: usize) -> bool
     ensures { result ≡ segs_fit n room }
 {
-    (n <= 384) & (n <= room)
+    n <= 384 && n <= room
 }
 
 // Writes the rows of the first n segments; nothing where there are not so many, or the array is too short.
 pub fn put_segs(out: &mut [SegRow], o: Outlines, n: usize)
     ensures { out.new ≡ cond (segs_fit n (length out.old)) (sets out.old 0 (seg_rows o n)) out.old }
 {
-    let room = out.len();
-    if segs_fit(n, room) {
+    if segs_fit(n, out.len()) {
         put_rows(out, o, n);
     }
 }

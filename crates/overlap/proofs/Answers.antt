@@ -2,7 +2,7 @@
 use Prim.Native.Nat.{ℕ, zero, suc, ◌+◌, ◌<◌, ◌≤◌}
 use native.Mathlib.Omega.{arith}
 use mathlib.Core.Path.{◌≡◌, refl, sym, ap, ap₂, ◌∙◌}
-use mathlib.Core.Bool.{Bool, true, false, false≢true, not, ◌&&◌}
+use mathlib.Core.Bool.{Bool, true, false, ◌&&◌}
 use mathlib.Core.List.{List}
 use lib.Dec.{ltb}
 use lib.Ieee.{Float}
@@ -11,58 +11,23 @@ use Rattle.laws.proofs.Choice.{cond_yes, cond_no, both}
 use borrow.Author.Tests.{ltb-true}
 use Rattle.ieee.specs.Consts.{zero_f}
 use Rattle.ieee.specs.Num.{max_of}
-use Rattle.bodies.specs.Check.{is_accepted}
+use Rattle.bodies.specs.Check.{Checked}
 use Rattle.mechanism.specs.Check.{FewParts, check_of, call_checked, answer_of, pair_drawn}
 use Rattle.mechanism.specs.Description.{pair_at}
 use Rattle.bodies.specs.Pose.{pose_fits}
-use Rattle.bodies.specs.declared.Checked.{Checked}
-use Rattle.bodies.specs.declared.Checked.TheVariants.{Accepted, Refused}
-use Rattle.mechanism.specs.declared.FloatAnswer.TheVariants.{IsFloat, NoFloat}
 use Rattle.mechanism.specs.declared.Mechanism.{Mechanism}
 use Rattle.mechanism.specs.declared.Outlines.{Outlines}
 use Rattle.mechanism.specs.declared.Parts.{Parts}
 use Rattle.bodies.specs.declared.Problem.{Problem}
 use Rattle.mechanism.specs.declared.pair.ContactPair.{ContactPair}
 use Rattle.bodies.specs.declared.pose.Pose.{Pose}
-use Rattle.mechanism.proofs.Checks.{accepted-few, at-description, at-pose, at_names}
+use Rattle.mechanism.proofs.Checks.{call_accepted, accepted-few}
 use Rattle.mechanism.proofs.Drawn.{accepted-pair-drawn}
 use Rattle.overlap.specs.Overlap.{pair_overlap, pair_overlap_at, pair_overlap_answer, overlap_of, overlap_answer, all_parts, parts_overlap, parts_overlap_answer}
-
-refused-not : {p : Problem} → Refused p ≡ Accepted → ⊥
-refused-not e = false≢true (ap is_accepted e)
-
-accepted-is : (c : Checked) → is_accepted c ≡ true → c ≡ Accepted
-accepted-is Accepted e = refl
-accepted-is (Refused p) e = absurd (false≢true e)
-
--- a call that is accepted: so is the description, the pose fits, and all that is named is there
-module _ (m : Mechanism) (fits known room : Bool) (e : call_checked m fits known room ≡ Accepted) where
-  description_accepted : is_accepted (check_of m) ≡ true
-  description_accepted = go (is_accepted (check_of m)) refl
-    where
-      go : (b : Bool) → is_accepted (check_of m) ≡ b → is_accepted (check_of m) ≡ true
-      go true f = f
-      go false f = ap is_accepted (sym (at-description m fits known room f) ∙ e)
-
-  pub call_accepted : check_of m ≡ Accepted
-  call_accepted = accepted-is (check_of m) description_accepted
-
-  pub call_fits : fits ≡ true
-  call_fits = go fits refl
-    where
-      go : (b : Bool) → fits ≡ b → b ≡ true
-      go true f = refl
-      go false f = absurd (refused-not (sym (at-pose m fits known room description_accepted (ap not f)) ∙ e))
-
-  pub call_known : known ≡ true
-  call_known = go known refl
-    where
-      go : (b : Bool) → known ≡ b → b ≡ true
-      go true f = refl
-      go false f = absurd (refused-not (sym (at_names m fits known room description_accepted (ap not call_fits) (ap not f)) ∙ e))
+use Rattle.std.proofs.Common.{Ok, Err}
 
 -- ---- the pairs of an accepted description are drawn
-module _ (m : Mechanism) (e : check_of m ≡ Accepted) (q : Pose) where
+module _ (m : Mechanism) (e : check_of m ≡ Ok tt) (q : Pose) where
   pair-overlap_is : (i : ℕ) → i < m.pairs.count → pair_overlap_at m.parts m.outlines q (pair_at m.pairs i) ≡ pair_overlap m.parts m.outlines q (pair_at m.pairs i)
   unfolding pair_overlap_at
   pair-overlap_is i h = cond_yes _ _ (accepted-pair-drawn m e i h)
@@ -85,24 +50,24 @@ module _ (m : Mechanism) (q : Pose) {c : Checked} {fits : Bool} (f : fits ≡ po
   said : (known : Bool) → c ≡ call_checked m fits known true → c ≡ call_checked m (pose_fits m.bodies q) known true
   said known e = e ∙ ap (λ (b : Bool). call_checked m b known true) f
 
-  refused_as : (known : Bool) {p : Problem} (x : Float) → c ≡ call_checked m fits known true → c ≡ Refused p → NoFloat p ≡ answer_of (call_checked m (pose_fits m.bodies q) known true) x
+  refused_as : (known : Bool) {p : Problem} (x : Float) → c ≡ call_checked m fits known true → c ≡ Err p → Err p ≡ answer_of (call_checked m (pose_fits m.bodies q) known true) x
   refused_as known x e r = ap (λ (k : Checked). answer_of k x) (sym r ∙ said known e)
 
-  answered-as : (known : Bool) {d : Float} (x : Float) → c ≡ call_checked m fits known true → c ≡ Accepted → d ≡ x → IsFloat d ≡ answer_of (call_checked m (pose_fits m.bodies q) known true) x
-  answered-as known x e r h = ap IsFloat h ∙ ap (λ (k : Checked). answer_of k x) (sym r ∙ said known e)
+  answered-as : (known : Bool) {d : Float} (x : Float) → c ≡ call_checked m fits known true → c ≡ Ok tt → d ≡ x → Ok d ≡ answer_of (call_checked m (pose_fits m.bodies q) known true) x
+  answered-as known x e r h = ap Ok h ∙ ap (λ (k : Checked). answer_of k x) (sym r ∙ said known e)
 
   -- pair_overlap
   module _ (i : ℕ) (e : c ≡ call_checked m fits (ltb i m.pairs.count) true) where
-    pub pair-refused : {p : Problem} → c ≡ Refused p → NoFloat p ≡ pair_overlap_answer m q i
+    pub pair-refused : {p : Problem} → c ≡ Err p → Err p ≡ pair_overlap_answer m q i
     unfolding pair_overlap_answer
     pair-refused r = refused_as (ltb i m.pairs.count) _ e r
 
-    module _ (r : c ≡ Accepted) where
-      description_taken : check_of m ≡ Accepted
-      description_taken = call_accepted m fits (ltb i m.pairs.count) true (sym e ∙ r)
+    module _ (r : c ≡ Ok tt) where
+      description_taken : check_of m ≡ Ok tt
+      description_taken = (call_accepted m fits (ltb i m.pairs.count) true (sym e ∙ r)).0
 
       there : i < m.pairs.count
-      there = ltb-true i m.pairs.count (call_known m fits (ltb i m.pairs.count) true (sym e ∙ r))
+      there = ltb-true i m.pairs.count (call_accepted m fits (ltb i m.pairs.count) true (sym e ∙ r)).2
 
       pub pair-there : i < 16
       pair-there =
@@ -116,40 +81,41 @@ module _ (m : Mechanism) (q : Pose) {c : Checked} {fits : Bool} (f : fits ≡ po
       pub pair-is-drawn : {p : ContactPair} → p ≡ pair_at m.pairs i → pair_drawn m.parts p ≡ true
       pair-is-drawn k = ap (pair_drawn m.parts) k ∙ accepted-pair-drawn m description_taken i there
 
-      pub pair-answered : {d : Float} {p : ContactPair} → d ≡ pair_overlap m.parts m.outlines q p → p ≡ pair_at m.pairs i → IsFloat d ≡ pair_overlap_answer m q i
+      pub pair-answered : {d : Float} {p : ContactPair} → d ≡ pair_overlap m.parts m.outlines q p → p ≡ pair_at m.pairs i → Ok d ≡ pair_overlap_answer m q i
       unfolding pair_overlap_answer
       pair-answered h k = answered-as (ltb i m.pairs.count) _ e r (h ∙ ap (pair_overlap m.parts m.outlines q) k)
 
   -- overlap
   module _ (e : c ≡ call_checked m fits true true) where
-    pub all-refused : {p : Problem} → c ≡ Refused p → NoFloat p ≡ overlap_answer m q
+    pub all-refused : {p : Problem} → c ≡ Err p → Err p ≡ overlap_answer m q
     unfolding overlap_answer
     all-refused r = refused_as true _ e r
 
-    module _ (r : c ≡ Accepted) where
+    module _ (r : c ≡ Ok tt) where
       pub pairs-few : m.pairs.count ≤ 16
-      pairs-few = (accepted-few m (call_accepted m fits true true (sym e ∙ r))).pairs.count
+      pairs-few = (accepted-few m (call_accepted m fits true true (sym e ∙ r)).0).pairs.count
 
-      pub all-answered : {d : Float} → d ≡ fold_in (λ d i. max_of d (pair_overlap_at m.parts m.outlines q (pair_at m.pairs i))) zero_f m.pairs.count 0 → IsFloat d ≡ overlap_answer m q
+      pub all-answered : {d : Float} → d ≡ fold_in (λ d i. max_of d (pair_overlap_at m.parts m.outlines q (pair_at m.pairs i))) zero_f m.pairs.count 0 → Ok d ≡ overlap_answer m q
       unfolding overlap_answer
-      all-answered h = answered-as true _ e r (h ∙ overlap_is m (call_accepted m fits true true (sym e ∙ r)) q)
+      all-answered h = answered-as true _ e r (h ∙ overlap_is m (call_accepted m fits true true (sym e ∙ r)).0 q)
 
   -- parts_overlap
   module _ (a b : List ℕ) {x y : Bool} (g : x ≡ all_parts m.parts a) (h : y ≡ all_parts m.parts b) (e : c ≡ call_checked m fits (x && y) true) where
     told : c ≡ call_checked m fits (all_parts m.parts a && all_parts m.parts b) true
     told = e ∙ ap₂ (λ (s t : Bool). call_checked m fits (s && t) true) g h
 
-    pub parts-refused : {p : Problem} → c ≡ Refused p → NoFloat p ≡ parts_overlap_answer m q a b
+    pub parts-refused : {p : Problem} → c ≡ Err p → Err p ≡ parts_overlap_answer m q a b
     unfolding parts_overlap_answer
     parts-refused r = refused_as (all_parts m.parts a && all_parts m.parts b) _ told r
 
-    module _ (r : c ≡ Accepted) where
+    module _ (r : c ≡ Ok tt) where
       pub parts-there : FewParts m.parts × (all_parts m.parts a ≡ true) × (all_parts m.parts b ≡ true)
       parts-there =
-          let k = both x y (call_known m fits (x && y) true (sym e ∙ r)) in
-          ((accepted-few m (call_accepted m fits (x && y) true (sym e ∙ r))).parts, sym g ∙ k.0, sym h ∙ k.1)
+          let t = call_accepted m fits (x && y) true (sym e ∙ r) in
+          let k = both x y t.2 in
+          ((accepted-few m t.0).parts, sym g ∙ k.0, sym h ∙ k.1)
 
-      pub parts-answered : {d : Float} → d ≡ parts_overlap m.parts m.outlines q a b → IsFloat d ≡ parts_overlap_answer m q a b
+      pub parts-answered : {d : Float} → d ≡ parts_overlap m.parts m.outlines q a b → Ok d ≡ parts_overlap_answer m q a b
       unfolding parts_overlap_answer
       parts-answered s = answered-as (all_parts m.parts a && all_parts m.parts b) _ told r s
 

@@ -3,15 +3,16 @@ use Prim.Native.Nat.{ℕ, zero, suc, ◌+◌, ◌-◌, ◌<◌, ◌≤◌}
 use native.Mathlib.Omega.{arith}
 use native.Mathlib.Nat.{add-zero, add-suc, suc-add, zero-add}
 use mathlib.Core.Path.{◌≡◌, refl, sym, ap, ap₂, ◌∙◌}
-use mathlib.Core.Bool.{Bool, false, cond}
-use mathlib.Core.List.{List, [], ◌∷◌, map}
-use lib.ListN.{length, get_or}
+use mathlib.Core.Bool.{Bool, true, false, not, ◌&&◌, ◌||◌, cond}
+use mathlib.Core.List.{List, [], ◌∷◌}
+use lib.ListN.{get_or}
 use lib.Seq.{take_all}
 use Rattle.laws.specs.Fill.{Filling}
-use Rattle.laws.specs.Lists.{list_in}
+use Rattle.laws.specs.Lists.{list_in, any}
+use Rattle.std.specs.List.{list_any, list_all}
 use Rattle.laws.specs.Loops.{filter_in}
 use Rattle.laws.proofs.Fill.{fill_end}
-use Rattle.laws.proofs.Lists.{list_turn, list_done, list_map}
+use Rattle.laws.proofs.Lists.{list_turn, list_done}
 use Rattle.overlap.specs.Overlap.{owner_at, as_owners}
 use Rattle.overlap.proofs.Once as once
 
@@ -45,10 +46,17 @@ filter_same p r (suc k) j e =
 pub owners-as : (p : ℕ → Bool) (n : ℕ) → n ≤ 32 → filter_in (owner_at (as_owners p)) n 0 ≡ filter_in p n 0
 owners-as p n h = filter_same (owner_at (as_owners p)) p n 0 (λ i l. flag_at p false i (omega arith))
 
--- ---- a list by its indexes
-map-self : (l : List ℕ) → map (λ x. x) l ≡ l
-map-self [] = refl
-map-self (x ∷ l) = ap (λ (m : List ℕ). x ∷ m) (map-self l)
+-- ---- std's words for a test of a list's elements
+pub any_listed : (p : ℕ → Bool) (l : List ℕ) → list_any p l ≡ any p l
+unfolding any
+any_listed p [] = refl
+any_listed p (x ∷ l) = ap (λ (b : Bool). p x || b) (any_listed p l)
 
-pub list_of : (l : List ℕ) → list_in (λ i. get_or l i 0) (length l) 0 ≡ l
-list_of l = sym (list_map (λ x. x) l 0) ∙ map-self l
+pub all_listed : (p : ℕ → Bool) (l : List ℕ) → list_all p l ≡ not (any (λ i. not (p i)) l)
+unfolding any
+all_listed p [] = refl
+all_listed p (x ∷ l) = go (p x) (all_listed p l)
+  where
+    go : (b : Bool) → list_all p l ≡ not (any (λ i. not (p i)) l) → (b && list_all p l) ≡ not (not b || any (λ i. not (p i)) l)
+    go true e = e
+    go false e = refl

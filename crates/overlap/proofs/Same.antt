@@ -17,7 +17,6 @@ use Rattle.mechanism.specs.Description.{pair_at}
 use Rattle.mechanism.specs.Segments.{outlines_in, described, seg_rows, segs_fit, segs_counted, SameSegs}
 use Rattle.mechanism.proofs.SegRows.{put-rows-same}
 use Rattle.mechanism.proofs.SameCheck.{check_same}
-use Rattle.mechanism.specs.declared.FloatAnswer.{FloatAnswer}
 use Rattle.mechanism.specs.declared.Mechanism.{Mechanism}
 use Rattle.mechanism.specs.declared.Outlines.{Outlines}
 use Rattle.mechanism.specs.declared.Parts.{Parts}
@@ -26,7 +25,6 @@ use Rattle.mechanism.specs.declared.pair.PairGeometry.{PairGeometry}
 use Rattle.mechanism.specs.declared.pair.PairGeometry.TheVariants.{Features, CenterBearing}
 use Rattle.mechanism.specs.declared.pair.Surface.{Surface}
 use Rattle.bodies.specs.Pose.{placement_at, world_of, pose_fits}
-use Rattle.bodies.specs.declared.Checked.{Checked}
 use Rattle.bodies.specs.declared.pose.Pose.{Pose}
 use Rattle.silhouette.specs.Silhouette.{silhouette_at}
 use Rattle.silhouette.proofs.BySegment.{put_same}
@@ -36,6 +34,9 @@ use Rattle.drawing.specs.Drawing.{body_of_side}
 use Rattle.drawing.specs.Samples.{mouths_of, part_samples}
 use Rattle.drawing.proofs.Same.{polygons_same, listed_same, mouths-same, samples_same, side_same}
 use Rattle.overlap.specs.Overlap.{owners_once, sunk_of, owner_in, overlap_by, pair_overlap, pair_overlap_at, pair_overlap_answer, owners_of, is_in, cut_of_any, list_material, parts_overlap}
+use Rattle.std.proofs.Common.{Result}
+use Rattle.bodies.specs.Check.{Checked}
+use Rattle.bodies.specs.declared.Problem.{Problem}
 
 fold_each : (f g : ℕ → List Point) (m : Material) → ((i : ℕ) → f i ≡ g i) → (l : List ℕ) (d : Float) → foldl (λ d i. deepest_of m d (f i)) d l ≡ foldl (λ d i. deepest_of m d (g i)) d l
 unfolding foldl
@@ -93,7 +94,7 @@ module _ (ps : Parts) (o : Outlines) (l : List (List Float)) {n : ℕ} {rows : L
   parts-put a b e = e ∙ parts_same ps (outlines_in rows) o (put_same ps o l long counted room put) q a b
 
 pub answer-put : (m : Mechanism) (l : List (List Float)) {n : ℕ} {rows : List (List Float)} → length m.outlines.seg ≡ 384 → (n ≡ segs_counted m.parts) × (n ≤ 384) → n ≤ length l
-    → rows ≡ cond (segs_fit n (length l)) (sets l 0 (seg_rows m.outlines n)) l → (q : Pose) (i : ℕ) {r : FloatAnswer}
+    → rows ≡ cond (segs_fit n (length l)) (sets l 0 (seg_rows m.outlines n)) l → (q : Pose) (i : ℕ) {r : Result Float Problem}
     → r ≡ pair_overlap_answer (described m.bodies m.parts rows m.pairs) q i → r ≡ pair_overlap_answer m q i
 unfolding pair_overlap_answer
 answer-put m l {n} {rows} long counted room put q i e =

@@ -1,5 +1,5 @@
 -- How deep parts stand in one another (contact/rows.rs: `sunk`, `overlap`, `pair_overlap`, `parts_overlap`). Definitions only.
-use Rattle.std.specs.Prelude.{ℕ, Bool, true, false, not, ◌&&◌, cond, List, map, eqb, ltb, get_or, Float}
+use Rattle.std.specs.Prelude.{ℕ, Bool, true, false, not, ◌&&◌, cond, List, map, eqb, ltb, get_or, Float, Result}
 use Rattle.laws.specs.Lists.{list_in, foldl, any}
 use Rattle.laws.specs.Loops.{filter_in, fold_in, keep}
 use Rattle.ieee.specs.Consts.{zero_f}
@@ -7,7 +7,6 @@ use Rattle.ieee.specs.Num.{max_of}
 use Rattle.mechanism.specs.Check.{call_checked, answer_of, pair_drawn}
 use Rattle.mechanism.specs.Description.{part_at, pair_at}
 use Rattle.bodies.specs.Pose.{placement_at, world_of, pose_fits}
-use Rattle.mechanism.specs.declared.FloatAnswer.{FloatAnswer}
 use Rattle.mechanism.specs.declared.Mechanism.{Mechanism}
 use Rattle.mechanism.specs.declared.Outlines.{Outlines}
 use Rattle.mechanism.specs.declared.Parts.{Parts}
@@ -21,6 +20,7 @@ use Rattle.drawing.specs.Drawing.{is_sampled, is_read_cut, polygon_of, polygons_
 use Rattle.drawing.specs.Samples.{mouths_of, part_samples}
 use Rattle.sides.specs.Features.{center_at}
 use Rattle.overlap.specs.declared.Owners.{Owners}
+use Rattle.bodies.specs.declared.Problem.{Problem}
 
 -- ---- sunk: the deepest that a sample of one of the owners, in order and each once, stands inside a material; zero where none does
 -- the owners in order, each once
@@ -85,13 +85,13 @@ abbrev pub all_parts : Parts → List ℕ → Bool
 all_parts ps l = not (any (λ i. not (ltb i ps.count)) l)
 
 -- ---- the answers: a number, or the first refusal that applies
-unfoldable pub pair_overlap_answer : Mechanism → Pose → ℕ → FloatAnswer
+unfoldable pub pair_overlap_answer : Mechanism → Pose → ℕ → Result Float Problem
 pair_overlap_answer m q i = answer_of (call_checked m (pose_fits m.bodies q) (ltb i m.pairs.count) true) (pair_overlap m.parts m.outlines q (pair_at m.pairs i))
 
-unfoldable pub overlap_answer : Mechanism → Pose → FloatAnswer
+unfoldable pub overlap_answer : Mechanism → Pose → Result Float Problem
 overlap_answer m q = answer_of (call_checked m (pose_fits m.bodies q) true true) (overlap_of m q)
 
-unfoldable pub parts_overlap_answer : Mechanism → Pose → List ℕ → List ℕ → FloatAnswer
+unfoldable pub parts_overlap_answer : Mechanism → Pose → List ℕ → List ℕ → Result Float Problem
 parts_overlap_answer m q a b = answer_of (call_checked m (pose_fits m.bodies q) (all_parts m.parts a && all_parts m.parts b) true) (parts_overlap m.parts m.outlines q a b)
 
 -- of any values: zero where a side is not drawn

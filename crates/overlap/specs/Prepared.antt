@@ -1,23 +1,22 @@
 -- How deep parts stand in one another, over a prepared description. Definitions only.
-use Rattle.std.specs.Prelude.{ℕ, cond, true, List, map, eqb, ltb, Float}
+use Rattle.std.specs.Prelude.{ℕ, cond, true, List, map, eqb, ltb, Float, Result}
 use Rattle.laws.specs.Lists.{list_in, foldl}
 use Rattle.laws.specs.Loops.{filter_in}
 use Rattle.ieee.specs.Consts.{zero_f}
 use Rattle.ieee.specs.Num.{max_of}
 use Rattle.geometry.specs.declared.Point.{Point}
-use Rattle.bodies.specs.Check.{and_then, refused_if, bodies_stand}
+use Rattle.bodies.specs.Check.{Checked, and_then, refused_if, bodies_stand}
 use Rattle.bodies.specs.Pose.{placement_at, world_of, pose_fits}
 use Rattle.bodies.specs.declared.Bodies.{Bodies}
-use Rattle.bodies.specs.declared.Checked.{Checked}
 use Rattle.bodies.specs.declared.Problem.TheVariants.{LimitPassed}
 use Rattle.bodies.specs.declared.pose.Pose.{Pose}
 use Rattle.mechanism.specs.Check.{then_called, answer_of}
-use Rattle.mechanism.specs.declared.FloatAnswer.{FloatAnswer}
 use Rattle.material.specs.Material.{Material, depth_of, deepest_of}
 use Rattle.strips.specs.Strips.{part_at, side_at, point_at, row_a, row_b, row_of_material, row_of_sampled}
 use Rattle.drawing.specs.Drawing.{chosen_as}
 use Rattle.drawing.specs.Prepared.{parts_in, choice_at, material_or}
 use Rattle.drawing.specs.declared.Chosen.{Chosen}
+use Rattle.bodies.specs.declared.Problem.{Problem}
 
 -- the points sampled along a part, placed with its body
 unfoldable pub samples_in : List (List Float) → List (List ℕ) → Pose → ℕ → List Point
@@ -51,5 +50,5 @@ pair_overlap_in drawn sampled parts sides centers choices q i =
 abbrev pub ask_checked : Bodies → ℕ → Pose → ℕ → Checked
 ask_checked b n q i = and_then (refused_if (ltb 16 n) LimitPassed) (then_called (bodies_stand b) (pose_fits b q) (ltb i n) true)
 
-unfoldable pub pair_overlap_answer_in : List (List Float) → List (List Float) → List (List ℕ) → List (List ℕ) → List (List Float) → List (List ℕ) → Bodies → ℕ → Pose → ℕ → FloatAnswer
+unfoldable pub pair_overlap_answer_in : List (List Float) → List (List Float) → List (List ℕ) → List (List ℕ) → List (List Float) → List (List ℕ) → Bodies → ℕ → Pose → ℕ → Result Float Problem
 pair_overlap_answer_in drawn sampled parts sides centers choices b n q i = answer_of (ask_checked b n q i) (pair_overlap_in drawn sampled parts sides centers choices q i)

@@ -1,8 +1,9 @@
 // How deep parts stand in one another (contact/rows.rs: `sunk`, `overlap`, `pair_overlap`, `parts_overlap`).
 #![tactic(auto)]
 
-ghost use Rattle.std.specs.Prelude.{◌≡◌, true, not, ◌&&◌, map, ◌+◌, ◌*◌, ◌<◌, ◌≤◌, eqb, ltb, length};
-ghost use Rattle.laws.specs.Lists.{list_in, flat, any};
+ghost use Rattle.std.specs.Prelude.{◌≡◌, true, ◌&&◌, map, ◌+◌, ◌*◌, ◌<◌, ◌≤◌, eqb, ltb, length};
+ghost use Rattle.std.specs.List.{list_all};
+ghost use Rattle.laws.specs.Lists.{list_in, flat};
 ghost use Rattle.laws.specs.Loops.{any_in, fold_in};
 ghost use Rattle.ieee.specs.Consts.{zero_f};
 ghost use Rattle.ieee.specs.Num.{max_of};
@@ -20,7 +21,7 @@ ghost use Rattle.overlap.specs.Overlap.{sunk_by, sunk_of, owner_in, features_ove
 pub mod prepared;
 
 use bodies::pose::{Placement, Pose, placement_at};
-use bodies::{Bodies, Checked};
+use bodies::{Bodies, Problem};
 use drawing::samples::{Mouth, draw_mouths, seg_samples};
 use drawing::{Chosen, Polygons, draw_from, is_own, is_read_cut, is_sampled, side_chosen, what_is};
 use geometry::Point;
@@ -31,7 +32,7 @@ use mechanism::check::{call_checked, check_in, pair_drawn, segs_counted, then_ca
 use mechanism::pair::{ContactPair, PairGeometry, Surface};
 use mechanism::part::Part;
 use mechanism::segments::{SegRow, put_segs};
-use mechanism::{FloatAnswer, Mechanism, Outlines, Pairs, Parts};
+use mechanism::{Mechanism, Outlines, Pairs, Parts};
 use sides::center_of;
 use silhouette::rows::{silhouette_count, silhouette_seg};
 
@@ -55,12 +56,8 @@ fn deepest_in(
     requires { range ≡ range_of points.now }
     ensures { result ≡ deepest_square (material_of points.now starts.now n.solids n.all) from (points_of samples.now) }
 {
-    let k = samples.len();
     let mut d = from;
-    let mut i: usize = 0;
-    while i < k {
-        let v = samples[i];
-        i += 1;
+    for v in samples {
         let p = Point { x: v[0], y: v[1] };
         d = deeper_square(points, starts, n.solids, n.all, range, p, d);
     }
@@ -84,12 +81,9 @@ fn sunk_part(
     ensures { result ≡ deepest_square (material_of points.now starts.now n.solids n.all) from (map (world_of place) (flat (samples_of (mouths_in mouths.now)) (silhouette_from (outlines_in segs.now) first p))) }
 {
     let mut samples = [[0.0; 2]; 17];
-    let count = silhouette_count(p);
     let mut d = from;
-    let mut k: usize = 0;
-    while k < count {
+    for k in 0..silhouette_count(p) {
         let s = silhouette_seg(segs, first, p, k);
-        k += 1;
         let m = seg_samples(&mut samples, s, place, mouths);
         d = deepest_in(points, starts, n, range, &samples[..m], d);
     }
@@ -111,20 +105,15 @@ fn sunk_in(
     ensures { result ≡ sunk_by ps (outlines_in segs.now) q (owner_at w) (mouths_in mouths.now) (material_of points.now starts.now n.solids n.all) }
 {
     let range = y_range(points);
-    let parts = ps.count;
     let mut first: usize = 0;
     let mut d = 0.0;
-    let mut i: usize = 0;
-    while i < parts {
-        let j = i;
-        let p = ps.part[j];
-        let f = first;
-        i += 1;
-        first += p.segs;
-        if w.is[j] {
+    for i in 0..ps.count {
+        let p = ps.part[i];
+        if w.is[i] {
             let place = placement_at(q, p.body);
-            d = sunk_part(points, starts, n, range, mouths, segs, f, p, place, d);
+            d = sunk_part(points, starts, n, range, mouths, segs, first, p, place, d);
         }
+        first += p.segs;
     }
     root(d)
 }
@@ -190,11 +179,8 @@ fn side_owners(ps: Parts, u: Surface) -> Owners
     ensures { result ≡ as_owners (owner_in ps u) }
 {
     let mut is = [false; 32];
-    let mut i: usize = 0;
-    while i < 32 {
-        let p = ps.part[i];
-        is[i] = is_own(u, i) & is_sampled(p);
-        i += 1;
+    for i in 0..32 {
+        is[i] = is_own(u, i) & is_sampled(ps.part[i]);
     }
     Owners { is }
 }
@@ -275,12 +261,9 @@ fn overlap_of_drawn(
     requires { (pair_drawn ps p ≡ true) × (start_of_part ps ps.count ≤ length segs.now) × (16 * start_of_part ps ps.count ≤ length points.old) × (2 * start_of_part ps ps.count ≤ length mouths.old) }
     ensures { result ≡ pair_overlap ps (outlines_in segs.now) q p }
 {
-    let a = p.a;
-    let b = p.b;
-    let geometry = p.geometry;
-    match geometry {
-        PairGeometry::Features => features_overlap(points, mouths, ps, segs, q, a, b),
-        PairGeometry::CenterBearing => center_overlap(points, ps, segs, q, a, b),
+    match p.geometry {
+        PairGeometry::Features => features_overlap(points, mouths, ps, segs, q, p.a, p.b),
+        PairGeometry::CenterBearing => center_overlap(points, ps, segs, q, p.a, p.b),
     }
 }
 
@@ -330,53 +313,58 @@ fn pair_answer(
     pairs: Pairs,
     q: Pose,
     pair: usize,
-) -> FloatAnswer
+) -> Result<f64, Problem>
     requires { (segs_counted ps ≤ length segs.now) × (16 * segs_counted ps ≤ length points.old) × (2 * segs_counted ps ≤ length mouths.old) }
     ensures { result ≡ pair_overlap_answer (described b ps segs.now pairs) q pair }
 {
-    let c = then_called(
+    then_called(
         check_in(b, ps, segs, pairs),
         q.fits(b),
         pair < pairs.count,
         true,
-    );
-    match c {
-        Checked::Refused(p) => FloatAnswer::NoFloat(p),
-        Checked::Accepted => {
-            let p = pair_at(pairs, pair);
-            FloatAnswer::IsFloat(overlap_of_drawn(points, mouths, ps, segs, q, p))
-        }
-    }
+    )?;
+    let p = pair_at(pairs, pair);
+    Ok(overlap_of_drawn(points, mouths, ps, segs, q, p))
 }
 
-// How deep the two sides of a pair stand in one another at a pose. The outlines are read once, into rows; few of them need little room.
-pub fn pair_overlap(m: Mechanism, q: Pose, pair: usize) -> FloatAnswer
+// The same with room of its own for so many segments, drawn points and mouths of cuts.
+fn pair_overlap_with<const SEGS: usize, const POINTS: usize, const MOUTHS: usize>(
+    m: Mechanism,
+    q: Pose,
+    pair: usize,
+) -> Result<f64, Problem>
+    requires { (segs_counted m.parts ≤ SEGS) × (SEGS ≤ 384) × (16 * SEGS ≤ POINTS) × (POINTS ≤ 6144) × (2 * SEGS ≤ MOUTHS) × (MOUTHS ≤ 768) }
     ensures { result ≡ pair_overlap_answer m q pair }
 {
-    let b = m.bodies;
-    let ps = m.parts;
-    let o = m.outlines;
-    let pairs = m.pairs;
-    let n = segs_counted(ps);
+    let mut segs = [[0.0; 8]; SEGS];
+    let mut points = [[0.0; 2]; POINTS];
+    let mut mouths = [[0.0; 4]; MOUTHS];
+    put_segs(&mut segs, m.outlines, segs_counted(m.parts));
+    pair_answer(
+        &mut points,
+        &mut mouths,
+        &segs,
+        m.bodies,
+        m.parts,
+        m.pairs,
+        q,
+        pair,
+    )
+}
+
+// How deep the two sides of a pair stand in one another at a pose. The outlines are read once, into rows; few of them need little room. Each room is a call of its own: a
+// function pays for all its arrays when it is entered.
+pub fn pair_overlap(m: Mechanism, q: Pose, pair: usize) -> Result<f64, Problem>
+    ensures { result ≡ pair_overlap_answer m q pair }
+{
+    let n = segs_counted(m.parts);
     if n <= 32 {
-        let mut segs = [[0.0; 8]; 32];
-        let mut points = [[0.0; 2]; 512];
-        let mut mouths = [[0.0; 4]; 64];
-        put_segs(&mut segs, o, n);
-        return pair_answer(&mut points, &mut mouths, &segs, b, ps, pairs, q, pair);
+        return pair_overlap_with::<32, 512, 64>(m, q, pair);
     }
     if n <= 128 {
-        let mut segs = [[0.0; 8]; 128];
-        let mut points = [[0.0; 2]; 2048];
-        let mut mouths = [[0.0; 4]; 256];
-        put_segs(&mut segs, o, n);
-        return pair_answer(&mut points, &mut mouths, &segs, b, ps, pairs, q, pair);
+        return pair_overlap_with::<128, 2048, 256>(m, q, pair);
     }
-    let mut segs = [[0.0; 8]; 384];
-    let mut points = [[0.0; 2]; 6144];
-    let mut mouths = [[0.0; 4]; 768];
-    put_segs(&mut segs, o, n);
-    pair_answer(&mut points, &mut mouths, &segs, b, ps, pairs, q, pair)
+    pair_overlap_with::<384, 6144, 768>(m, q, pair)
 }
 
 // The deepest of the first pairs.
@@ -384,66 +372,36 @@ fn deepest_pair(ps: Parts, o: Outlines, q: Pose, pairs: Pairs) -> f64
     requires { pairs.count ≤ 16 }
     ensures { result ≡ fold_in (λ d i. max_of d (pair_overlap_at ps o q (pair_at pairs i))) zero_f pairs.count 0 }
 {
-    let n = pairs.count;
     let mut d = 0.0;
-    let mut i: usize = 0;
-    while i < n {
-        let p = pairs.pair[i];
-        d = max(d, pair_overlap_at(ps, o, q, p));
-        i += 1;
+    for i in 0..pairs.count {
+        d = max(d, pair_overlap_at(ps, o, q, pairs.pair[i]));
     }
     d
 }
 
 // How deep the parts of all pairs stand in one another at a pose.
-pub fn overlap(m: Mechanism, q: Pose) -> FloatAnswer
+pub fn overlap(m: Mechanism, q: Pose) -> Result<f64, Problem>
     ensures { result ≡ overlap_answer m q }
 {
-    let b = m.bodies;
-    let c = call_checked(m, q.fits(b), true, true);
-    match c {
-        Checked::Refused(p) => FloatAnswer::NoFloat(p),
-        Checked::Accepted => {
-            let ps = m.parts;
-            let o = m.outlines;
-            let pairs = m.pairs;
-            FloatAnswer::IsFloat(deepest_pair(ps, o, q, pairs))
-        }
-    }
+    call_checked(m, q.fits(m.bodies), true, true)?;
+    Ok(deepest_pair(m.parts, m.outlines, q, m.pairs))
 }
 
 // ---- parts_overlap
 
 // Whether every number names a part.
 fn all_parts(l: &[usize], n: usize) -> bool
-    ensures { result ≡ not (any (λ i. not (ltb i n)) l.now) }
+    ensures { result ≡ list_all (λ i. ltb i n) l.now }
 {
-    let k = l.len();
-    let mut i: usize = 0;
-    while i < k {
-        let x = l[i];
-        i += 1;
-        if n <= x {
-            return false;
-        }
-    }
-    true
+    l.iter().all(|x| *x < n)
 }
 
 // Whether a list has i.
+#[tactic(auto, using(crate::proofs::Flags::any_listed))]
 fn is_in(l: &[usize], i: usize) -> bool
     ensures { result ≡ is_in l.now i }
 {
-    let k = l.len();
-    let mut j: usize = 0;
-    while j < k {
-        let x = l[j];
-        j += 1;
-        if x == i {
-            return true;
-        }
-    }
-    false
+    l.contains(&i)
 }
 
 // The listed parts that are sampled.
@@ -451,11 +409,8 @@ fn list_owners(ps: Parts, l: &[usize]) -> Owners
     ensures { result ≡ as_owners (λ i. is_in l.now i && is_sampled (part_at ps i)) }
 {
     let mut is = [false; 32];
-    let mut i: usize = 0;
-    while i < 32 {
-        let p = ps.part[i];
-        is[i] = is_in(l, i) & is_sampled(p);
-        i += 1;
+    for i in 0..32 {
+        is[i] = is_in(l, i) & is_sampled(ps.part[i]);
     }
     Owners { is }
 }
@@ -465,13 +420,8 @@ fn any_on(ps: Parts, w: Owners, body: usize) -> bool
     requires { FewParts ps }
     ensures { result ≡ any_in (λ j. owner_at w j && eqb (part_at ps j).body body) ps.count 0 }
 {
-    let n = ps.count;
-    let mut j: usize = 0;
-    while j < n {
-        let p = ps.part[j];
-        let is = w.is[j];
-        j += 1;
-        if is & (p.body == body) {
+    for j in 0..ps.count {
+        if w.is[j] & (ps.part[j].body == body) {
             return true;
         }
     }
@@ -484,12 +434,10 @@ fn owners_chosen(ps: Parts, w: Owners) -> Chosen
     ensures { result ≡ record { what = list_in (λ i. what_is (owner_at w i) (is_read_cut (part_at ps i) && any_in (λ j. owner_at w j && eqb (part_at ps j).body (part_at ps i).body) ps.count 0)) 32 0 } }
 {
     let mut what = [0u8; 32];
-    let mut i: usize = 0;
-    while i < 32 {
+    for i in 0..32 {
         let p = ps.part[i];
         let cut = is_read_cut(p) & any_on(ps, w, p.body);
         what[i] = what_is(w.is[i], cut);
-        i += 1;
     }
     Chosen { what }
 }
@@ -519,18 +467,10 @@ fn overlap_of_parts(ps: Parts, o: Outlines, q: Pose, a: &[usize], b: &[usize]) -
 }
 
 // How deep the parts of two lists stand in one another at a pose.
-pub fn parts_overlap(m: Mechanism, q: Pose, a: &[usize], b: &[usize]) -> FloatAnswer
+pub fn parts_overlap(m: Mechanism, q: Pose, a: &[usize], b: &[usize]) -> Result<f64, Problem>
     ensures { result ≡ parts_overlap_answer m q a.now b.now }
 {
-    let bodies = m.bodies;
-    let ps = m.parts;
-    let n = ps.count;
-    let c = call_checked(m, q.fits(bodies), all_parts(a, n) & all_parts(b, n), true);
-    match c {
-        Checked::Refused(p) => FloatAnswer::NoFloat(p),
-        Checked::Accepted => {
-            let o = m.outlines;
-            FloatAnswer::IsFloat(overlap_of_parts(ps, o, q, a, b))
-        }
-    }
+    let n = m.parts.count;
+    call_checked(m, q.fits(m.bodies), all_parts(a, n) & all_parts(b, n), true)?;
+    Ok(overlap_of_parts(m.parts, m.outlines, q, a, b))
 }

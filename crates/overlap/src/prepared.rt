@@ -12,14 +12,13 @@ ghost use Rattle.overlap.specs.Prepared.{sunk_in, pair_overlap_in, ask_checked, 
 
 use bodies::check::bodies_stand;
 use bodies::pose::{Placement, Pose, placement_at};
-use bodies::{Bodies, Checked, Problem};
+use bodies::{Bodies, Problem};
 use drawing::prepared::{all_drawn, choice_at, draw_in, part_count};
 use drawing::{Chosen, Polygons};
 use geometry::Point;
 use ieee::num::max;
 use ieee::root::root;
 use material::{Range, Spot, deeper_square, depth, y_range};
-use mechanism::FloatAnswer;
 use mechanism::check::then_called;
 use strips::{
     ChoiceRow, PartFacts, PartRow, PointRow, SideFacts, SideRow, part_at, point_at, row_a, row_b,
@@ -42,10 +41,8 @@ fn sunk_part(
     ensures { result ≡ deepest_square (material_of points.now starts.now n.solids n.all) from (map (world_of place) (list_in (point_at sampled.now) count first)) }
 {
     let mut d = from;
-    let mut i: usize = 0;
-    while i < count {
+    for i in 0..count {
         let p = place.world(point_at(sampled, first + i));
-        i += 1;
         d = deeper_square(points, starts, n.solids, n.all, range, p, d);
     }
     d
@@ -64,14 +61,10 @@ fn sunk_among(
     ensures { result ≡ sunk_in sampled.now parts.now q w (material_of points.now starts.now n.solids n.all) }
 {
     let range = y_range(points);
-    let count = part_count(parts);
     let mut d = 0.0;
-    let mut i: usize = 0;
-    while i < count {
-        let j = i;
-        i += 1;
-        if w.what[j] == 1 {
-            let p = part_at(parts, j);
+    for i in 0..part_count(parts) {
+        if w.what[i] == 1 {
+            let p = part_at(parts, i);
             d = sunk_part(
                 points,
                 starts,
@@ -205,7 +198,35 @@ fn overlap_by(
     )
 }
 
-// How deep the two sides of a pair stand in one another.
+// The same with room for N drawn points of its own.
+fn overlap_with<const N: usize>(
+    drawn: &[PointRow],
+    sampled: &[PointRow],
+    parts: &[PartRow],
+    sides: &[SideRow],
+    centers: &[PointRow],
+    choices: &[ChoiceRow],
+    q: Pose,
+    pair: usize,
+) -> f64
+    requires { (all_drawn parts.now ≤ N) × (N ≤ 6144) }
+    ensures { result ≡ pair_overlap_in drawn.now sampled.now parts.now sides.now centers.now choices.now q pair }
+{
+    let mut points = [[0.0; 2]; N];
+    overlap_by(
+        &mut points,
+        drawn,
+        sampled,
+        parts,
+        sides,
+        centers,
+        choices,
+        q,
+        pair,
+    )
+}
+
+// How deep the two sides of a pair stand in one another. Each room is a call of its own: a function pays for all its arrays when it is entered.
 pub fn pair_overlap_in(
     drawn: &[PointRow],
     sampled: &[PointRow],
@@ -220,40 +241,23 @@ pub fn pair_overlap_in(
 {
     let n = all_drawn(parts);
     if n <= 256 {
-        let mut few = [[0.0; 2]; 256];
-        return overlap_by(
-            &mut few, drawn, sampled, parts, sides, centers, choices, q, pair,
-        );
+        return overlap_with::<256>(drawn, sampled, parts, sides, centers, choices, q, pair);
     }
     if n <= 1024 {
-        let mut some = [[0.0; 2]; 1024];
-        return overlap_by(
-            &mut some, drawn, sampled, parts, sides, centers, choices, q, pair,
-        );
+        return overlap_with::<1024>(drawn, sampled, parts, sides, centers, choices, q, pair);
     }
     if n <= 6144 {
-        let mut points = [[0.0; 2]; 6144];
-        return overlap_by(
-            &mut points,
-            drawn,
-            sampled,
-            parts,
-            sides,
-            centers,
-            choices,
-            q,
-            pair,
-        );
+        return overlap_with::<6144>(drawn, sampled, parts, sides, centers, choices, q, pair);
     }
     0.0
 }
 
 // What is refused of a question about pair `pair` of `pairs`.
-fn ask_checked(bodies: Bodies, pairs: usize, q: Pose, pair: usize) -> Checked
+fn ask_checked(bodies: Bodies, pairs: usize, q: Pose, pair: usize) -> Result<(), Problem>
     ensures { result ≡ ask_checked bodies pairs q pair }
 {
     if 16 < pairs {
-        return Checked::Refused(Problem::LimitPassed);
+        return Err(Problem::LimitPassed);
     }
     then_called(bodies_stand(bodies), q.fits(bodies), pair < pairs, true)
 }
@@ -270,14 +274,9 @@ pub fn pair_overlap(
     pairs: usize,
     q: Pose,
     pair: usize,
-) -> FloatAnswer
+) -> Result<f64, Problem>
     ensures { result ≡ pair_overlap_answer_in drawn.now sampled.now parts.now sides.now centers.now choices.now bodies pairs q pair }
 {
-    let c = ask_checked(bodies, pairs, q, pair);
-    match c {
-        Checked::Refused(p) => FloatAnswer::NoFloat(p),
-        Checked::Accepted => FloatAnswer::IsFloat(pair_overlap_in(
-            drawn, sampled, parts, sides, centers, choices, q, pair,
-        )),
-    }
+    ask_checked(bodies, pairs, q, pair)?;
+    Ok(pair_overlap_in(drawn, sampled, parts, sides, centers, choices, q, pair))
 }

@@ -7,12 +7,9 @@ use mathlib.Core.Path.{◌≡◌, refl, sym, ap, ap₂, ◌∙◌}
 use mathlib.Core.List.{List, [], ◌∷◌}
 use lib.Ieee.{Float, nan}
 use lib.ListN.{length, get_or, set, take, drop, replicate, length-set, length-replicate}
-use lib.Seq.{sets, length-sets, take-suc}
-use mir.Val.{Val}
-use denote.Laws.{Is}
+use lib.Seq.{sets, take-suc, take_all}
 use Rattle.laws.specs.Lists.{foldl}
 use Rattle.laws.proofs.Lists.{foldl-append}
-use Rattle.bodies.proofs.Known.{array_length}
 use Rattle.geometry.specs.declared.Point.{Point}
 use Rattle.bodies.specs.Pose.{columns_of, columns_in}
 use Rattle.bodies.specs.declared.Bodies.{Bodies}
@@ -27,13 +24,6 @@ use Rattle.ieee.specs.Operators.{◌⊕◌, ◌⊖◌}
 use Rattle.geometry.specs.Signed.{dot_of}
 use Rattle.pair_rows.specs.PairRows.{add_into, sub_from, along_of}
 use Rattle.pair_rows.proofs.Store.{sets-get, sets-set, sets_then, part-long, part_same}
-
--- what stands past the end of an array: it is never read
-abbrev pub none_at : Column
-none_at = record { coord = 0; column = record { x = nan; y = nan } }
-
-pub columns_long : (k : Columns) (vs : List Val) → Is K.the_row k vs → length k.column ≡ 15
-columns_long k vs p = array_length C.the_row 15 k.column _ p.1.1.1.0
 
 -- one column taken in: f of what stands at its coordinate
 abbrev pub step_by : (Float → Column → Float) → List Float → Column → List Float
@@ -50,31 +40,24 @@ set_past [] i x h = refl
 set_past (y ∷ g) zero x h = absurd (omega arith)
 set_past (y ∷ g) (suc i) x h = ap (λ (l : List Float). y ∷ l) (set_past g i x (omega arith))
 
--- ---- A loop over the first `count` of the columns: the first i are taken in, into the n floats from `at` on.
-pub record Summed (f : Float → Column → Float) (cols : List Column) (count n at : ℕ) (out₀ out : List Float) (i : ℕ) : Type 0 where
-  pub far : i ≤ count
+-- ---- A loop over columns: the first i are taken in, into the n floats from `at` on.
+pub record Summed (f : Float → Column → Float) (cols : List Column) (n at : ℕ) (out₀ out : List Float) (i : ℕ) : Type 0 where
   pub sum : out ≡ sets out₀ at (foldl (step_by f) (take n (drop at out₀)) (take i cols))
 
-pub summed_start : (f : Float → Column → Float) (cols : List Column) (count n at : ℕ) (out : List Float) → at + n ≤ length out → Summed f cols count n at out out 0
+pub summed_start : (f : Float → Column → Float) (cols : List Column) (n at : ℕ) (out : List Float) → at + n ≤ length out → Summed f cols n at out out 0
 unfolding foldl
-summed_start f cols count n at out h = record { far = omega arith; sum = part_same out at n h }
+summed_start f cols n at out h = record { sum = part_same out at n h }
 
-module _ {f : Float → Column → Float} {cols : List Column} {count n at : ℕ} {out₀ out : List Float} {i : ℕ} (w : Summed f cols count n at out₀ out i) where
-  pub summed_long : length out ≡ length out₀
-  summed_long = ap length w.sum ∙ length-sets out₀ at (foldl (step_by f) (take n (drop at out₀)) (take i cols))
+module _ {f : Float → Column → Float} {cols : List Column} {n at : ℕ} {out₀ out : List Float} {i : ℕ} (w : Summed f cols n at out₀ out i) where
+  pub summed_end : length cols ≤ i → out ≡ sets out₀ at (foldl (step_by f) (take n (drop at out₀)) cols)
+  summed_end h = w.sum ∙ ap (λ (l : List Column). sets out₀ at (foldl (step_by f) (take n (drop at out₀)) l)) (take_all i cols h)
 
-  pub summed_end : count ≤ i → out ≡ sets out₀ at (foldl (step_by f) (take n (drop at out₀)) (take count cols))
-  summed_end h =
-      let g = w.far in
-      let e : i ≡ count = omega arith in
-      w.sum ∙ ap (λ (k : ℕ). sets out₀ at (foldl (step_by f) (take n (drop at out₀)) (take k cols))) e
-
-  module _ (d : Column) (h : i < count) (l : count ≤ length cols) (room : at + n ≤ length out₀) where
-    abbrev sum-so_far : List Float
-    sum-so_far = foldl (step_by f) (take n (drop at out₀)) (take i cols)
-
+  module _ (d : Column) (h : i < length cols) (room : at + n ≤ length out₀) where
     abbrev next : Column
     next = get_or cols i d
+
+    abbrev sum-so_far : List Float
+    sum-so_far = foldl (step_by f) (take n (drop at out₀)) (take i cols)
 
     long : length sum-so_far ≡ n
     long = step-long f (take i cols) (take n (drop at out₀)) ∙ part-long out₀ at n room
@@ -83,34 +66,26 @@ module _ {f : Float → Column → Float} {cols : List Column} {count n at : ℕ
     unfolding foldl
     turn =
         ap (λ (j : ℕ). foldl (step_by f) (take n (drop at out₀)) (take j cols)) (add-one i)
-        ∙ ap (foldl (step_by f) (take n (drop at out₀))) (take-suc cols i d (omega (arith, h, l)))
+        ∙ ap (foldl (step_by f) (take n (drop at out₀))) (take-suc cols i d h)
         ∙ foldl-append (step_by f) (take n (drop at out₀)) (take i cols) (next ∷ [])
 
     -- a column whose coordinate is not one of the n
-    pub summed_skip : n ≤ next.coord → Summed f cols count n at out₀ out (i + 1)
+    pub summed_skip : n ≤ next.coord → Summed f cols n at out₀ out (i + 1)
     summed_skip b =
         let e = long in
-        record { far = omega (arith, h); sum = w.sum ∙ ap (sets out₀ at) (sym (turn ∙ set_past sum-so_far next.coord (f (get_or sum-so_far next.coord nan) next) (omega (arith, e, b)))) }
+        record { sum = w.sum ∙ ap (sets out₀ at) (sym (turn ∙ set_past sum-so_far next.coord (f (get_or sum-so_far next.coord nan) next) (omega (arith, e, b)))) }
 
-    module _ (b : next.coord < n) where
-      pub summed_room : at + next.coord < length out
-      summed_room = let e = summed_long in omega (arith, b, e, room)
-
-      pub summed_more : Summed f cols count n at out₀ (set out (at + next.coord) (f (get_or out (at + next.coord) nan) next)) (i + 1)
-      summed_more = record { far = omega (arith, h); sum = more }
-        where
-          fits : at + length sum-so_far ≤ length out₀
-          fits = let e = long in omega (arith, e, room)
-
-          inside : next.coord < length sum-so_far
-          inside = let e = long in omega (arith, e, b)
-
-          more : set out (at + next.coord) (f (get_or out (at + next.coord) nan) next) ≡ sets out₀ at (foldl (step_by f) (take n (drop at out₀)) (take (i + 1) cols))
-          more =
-              ap (λ (m : List Float). set m (at + next.coord) (f (get_or m (at + next.coord) nan) next)) w.sum
+    pub summed_more : next.coord < n → Summed f cols n at out₀ (set out (at + next.coord) (f (get_or out (at + next.coord) nan) next)) (i + 1)
+    summed_more b =
+        let e = long in
+        let fits : at + length sum-so_far ≤ length out₀ = omega (arith, e, room) in
+        let inside : next.coord < length sum-so_far = omega (arith, e, b) in
+        record {
+          sum = ap (λ (m : List Float). set m (at + next.coord) (f (get_or m (at + next.coord) nan) next)) w.sum
               ∙ ap (λ (x : Float). set (sets out₀ at sum-so_far) (at + next.coord) (f x next)) (sets-get sum-so_far out₀ at fits next.coord nan inside)
               ∙ sets-set sum-so_far out₀ at fits next.coord (f (get_or sum-so_far next.coord nan) next) inside
-              ∙ ap (sets out₀ at) (sym turn)
+              ∙ ap (sets out₀ at) (sym turn);
+        }
 
 -- ---- the columns of one chain added to zeros, then those of another subtracted
 pub along-is : (f g : Float → Column → Float) (ka kb : List Column) (z : Float) (at n : ℕ) (out₀ out₁ out₂ out₃ : List Float) → at + n ≤ length out₀

@@ -18,7 +18,6 @@ use Rattle.pair_rows.specs.PairRows.{Put, Room}
 -- ---- A loop over n indexes writes a row for each that passes: the first i are done, and `to` is the next row.
 pub record Listing (pl : ℕ → List ℕ) (va gr sl : ℕ → List Float) (p : ℕ → Bool) (n coords at : ℕ)
     (places₀ places : List (List ℕ)) (values₀ values : List (List Float)) (grad₀ grad slip₀ slip : List Float) (to i : ℕ) : Type 0 where
-  pub far : i ≤ n
   pub placed : Writing places₀ at (map pl (filter_in p n 0)) places to (map pl (filter_in p (n - i) i))
   pub valued : Writing values₀ at (map va (filter_in p n 0)) values to (map va (filter_in p (n - i) i))
   pub grads : Writing grad₀ (at * coords) (flat gr (filter_in p n 0)) grad (to * coords) (flat gr (filter_in p (n - i) i))
@@ -28,7 +27,7 @@ pub listing_start : (pl : ℕ → List ℕ) (va gr sl : ℕ → List Float) (p :
     → Listing pl va gr sl p n coords at places places values values grad grad slip slip at 0
 listing_start pl va gr sl p n coords at places values grad slip =
     let e : filter_in p (n - 0) 0 ≡ filter_in p n 0 = ap (λ (k : ℕ). filter_in p k 0) (sub-zero n) in
-    record { far = omega arith; placed = starts (ap (map pl) e); valued = starts (ap (map va) e); grads = starts (ap (flat gr) e); slips = starts (ap (flat sl) e) }
+    record { placed = starts (ap (map pl) e); valued = starts (ap (map va) e); grads = starts (ap (flat gr) e); slips = starts (ap (flat sl) e) }
 
 -- one more row of c floats
 appends-row : {out₀ : List Float} {at₀ : ℕ} {all out : List Float} (to c : ℕ) {rest : List Float} (xs : List Float) {rest' out' : List Float} → rest ≡ xs ++ rest' → length xs ≡ c → out' ≡ sets out (to * c) xs
@@ -72,7 +71,6 @@ module _ {pl : ℕ → List ℕ} {va gr sl : ℕ → List Float} {p : ℕ → Bo
   listing_more h e lg ls og os =
       let f = filter-yes p n i h e in
       record {
-        far = omega (arith, h);
         placed = puts (ap (map pl) f) w.placed;
         valued = puts (ap (map va) f) w.valued;
         grads = appends-row to coords (gr i) (ap (flat gr) f) lg og w.grads;
@@ -83,7 +81,7 @@ module _ {pl : ℕ → List ℕ} {va gr sl : ℕ → List Float} {p : ℕ → Bo
   pub listing_skip : i < n → p i ≡ false → Listing pl va gr sl p n coords at places₀ places values₀ values grad₀ grad slip₀ slip to (i + 1)
   listing_skip h e =
       let f = filter-no p n i h e in
-      record { far = omega (arith, h); placed = goes_on (ap (map pl) f) w.placed; valued = goes_on (ap (map va) f) w.valued; grads = goes_on (ap (flat gr) f) w.grads; slips = goes_on (ap (flat sl) f) w.slips }
+      record { placed = goes_on (ap (map pl) f) w.placed; valued = goes_on (ap (map va) f) w.valued; grads = goes_on (ap (flat gr) f) w.grads; slips = goes_on (ap (flat sl) f) w.slips }
 
   pub listing_end : n ≤ i → Put coords (map pl (filter_in p n 0)) (map va (filter_in p n 0)) (flat gr (filter_in p n 0)) (flat sl (filter_in p n 0)) at to places₀ places values₀ values grad₀ grad slip₀ slip
   unfolding flat

@@ -78,8 +78,8 @@ sets_then {A} f g l y z at n k e h p q =
     ∙ sets_over g l at r (f g) (k g)
 
 -- one more of the same
-pub sets-one-more : {A : Type 0} (l out : List A) (at i : ℕ) (a : A) → out ≡ sets l at (replicate i a) → set out (at + i) a ≡ sets l at (replicate (i + 1) a)
-sets-one-more {A} l out at i a e =
+pub sets_one_more : {A : Type 0} (l out : List A) (at i : ℕ) (a : A) → out ≡ sets l at (replicate i a) → set out (at + i) a ≡ sets l at (replicate (i + 1) a)
+sets_one_more {A} l out at i a e =
     ap (λ (m : List A). set m (at + i) a) e
     ∙ ap (λ (k : ℕ). set (sets l at (replicate i a)) (at + k) a) (sym (length-replicate i a))
     ∙ sym (sets-append (replicate i a) (a ∷ []) l at)

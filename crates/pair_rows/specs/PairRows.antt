@@ -49,6 +49,13 @@ add_into v g k = set g k.coord (get_or g k.coord nan ⊕ dot_of v k.column)
 abbrev pub sub_from : Point → List Float → Column → List Float
 sub_from v g k = set g k.coord (get_or g k.coord nan ⊖ dot_of v k.column)
 
+-- the same, one or the other
+abbrev pub changed : Bool → Float → Float → Float
+changed less x y = cond less (x ⊖ y) (x ⊕ y)
+
+abbrev pub changed_by : Bool → Point → List Float → Column → List Float
+changed_by less v g k = set g k.coord (changed less (get_or g k.coord nan) (dot_of v k.column))
+
 abbrev pub along_of : Bodies → Pose → Point → Point → ℕ → ℕ → List Float
 along_of b q v at body_a bodyB =
     foldl (sub_from v) (foldl (add_into v) (replicate b.coords zero_f) (columns_of b q at body_a)) (columns_of b q at bodyB)

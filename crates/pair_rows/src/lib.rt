@@ -8,10 +8,10 @@ ghost use Rattle.laws.specs.Loops.{any_in};
 ghost use Rattle.ieee.specs.Consts.{zero_f};
 ghost use Rattle.mechanism.specs.Rows.{gap_in};
 ghost use Rattle.showing.specs.Showing.{hides, hidden, shows, within};
-ghost use Rattle.pair_rows.specs.PairRows.{decides_in, alike_in, alike_rows, outdoes_by, add_into, sub_from, grad_in, slip_in, Room, room_behind, shown_in, PutShown};
+ghost use Rattle.pair_rows.specs.PairRows.{decides_in, alike_in, alike_rows, outdoes_by, add_into, sub_from, changed, changed_by, grad_in, slip_in, Room, room_behind, shown_in, PutShown};
 
 use bodies::Bodies;
-use bodies::pose::{Column, Columns, Pose, columns_at};
+use bodies::pose::{Columns, Pose, columns_at};
 use geometry::Point;
 use ieee::num::is_nan;
 use mechanism::rows::{Place, Value};
@@ -33,30 +33,24 @@ fn are_alike(x: Place, y: Place) -> bool
     let letters = pick(s, x[0], x[3]) == pick(t, y[0], y[3]);
     let parts = pick(s, x[1], x[4]) == pick(t, y[1], y[4]);
     let segs = pick(s, x[2], x[5]) == pick(t, y[2], y[5]);
-    ((x[6] != 0) & (y[6] != 0)) & (letters & (parts & segs))
+    (x[6] != 0 && y[6] != 0) && letters && parts && segs
 }
 
 // Whether a candidate with the gap y, number j, hides one with the gap x, number i, of the same piece.
 fn outdoes(x: f64, i: usize, y: f64, j: usize) -> bool
     ensures { result ≡ outdoes_by x i y j }
 {
-    (y < 0.0) & ((x < y) | ((x == y) & (j < i)))
+    y < 0.0 && (x < y || (x == y && j < i))
 }
 
 // Whether one of the first n candidates hides number i.
+#[tactic(auto, using(bodies::proofs::Turns::any_turns))]
 fn is_beaten(near: &[Value], named: &[Place], n: usize, i: usize) -> bool
     requires { (n ≤ length near.now) × (n ≤ length named.now) × (i < n) }
     ensures { result ≡ any_in (hides (gap_in near.now) (decides_in named.now) (alike_in named.now) i) n 0 }
 {
-    let x = near[i];
-    let p = named[i];
-    let mut j: usize = 0;
-    while j < n {
-        let y = near[j];
-        let r = named[j];
-        let k = j;
-        j += 1;
-        if are_alike(r, p) & outdoes(x[0], i, y[0], k) {
+    for j in 0..n {
+        if are_alike(named[j], named[i]) && outdoes(near[i][0], i, near[j][0], j) {
             return true;
         }
     }
@@ -67,75 +61,51 @@ fn is_hidden(near: &[Value], named: &[Place], n: usize, i: usize) -> bool
     requires { (n ≤ length near.now) × (n ≤ length named.now) × (i < n) }
     ensures { result ≡ hidden (gap_in near.now) (decides_in named.now) (alike_in named.now) n i }
 {
-    let x = near[i];
-    let p = named[i];
-    if (p[6] != 0) & (x[0] < -0.001) {
-        return is_beaten(near, named, n, i);
-    }
-    false
+    named[i][6] != 0 && near[i][0] < -0.001 && is_beaten(near, named, n, i)
 }
 
 // Whether a gap is a number and not above the margin.
 fn is_within(margin: f64, gap: f64) -> bool
     ensures { result ≡ within margin gap }
 {
-    !is_nan(gap) & !(margin < gap)
+    !is_nan(gap) && !(margin < gap)
 }
 
 fn is_shown(near: &[Value], named: &[Place], n: usize, margin: f64, i: usize) -> bool
     requires { (n ≤ length near.now) × (n ≤ length named.now) × (i < n) }
     ensures { result ≡ shows (gap_in near.now) (decides_in named.now) (alike_in named.now) n margin i }
 {
-    let x = near[i];
-    !is_hidden(near, named, n, i) & is_within(margin, x[0])
+    !is_hidden(near, named, n, i) && is_within(margin, near[i][0])
 }
 
 // ---- gradients and slips
 
 // Writes n zeros from `at` on.
+#[tactic(auto, using(crate::proofs::Store::sets_one_more))]
 fn put_zeros(out: &mut [f64], at: usize, n: usize)
     requires { at + n ≤ length out.old }
     ensures { out.new ≡ sets out.old at (replicate n zero_f) }
 {
-    let mut i: usize = 0;
-    while i < n {
+    for i in 0..n {
         out[at + i] = 0.0;
-        i += 1;
     }
 }
 
-// Adds the columns along v, each at its coordinate, where that is one of the n.
-fn add_columns(out: &mut [f64], at: usize, n: usize, v: Point, k: Columns)
-    requires { (at + n ≤ length out.old) × (k.count ≤ 15) }
-    ensures { out.new ≡ sets out.old at (foldl (add_into v) (take n (drop at out.old)) (take k.count k.column)) }
+fn changed(less: bool, x: f64, y: f64) -> f64
+    ensures { result ≡ changed less x y }
 {
-    let count = k.count;
-    let mut i: usize = 0;
-    while i < count {
-        let c = k.column[i];
-        let j = c.column;
-        i += 1;
-        if c.coord < n {
-            let to = at + c.coord;
-            out[to] = out[to] + (v.x * j.x + v.y * j.y);
-        }
-    }
+    if less { x - y } else { x + y }
 }
 
-// Subtracts them.
-fn sub_columns(out: &mut [f64], at: usize, n: usize, v: Point, k: Columns)
+// Adds the columns along v, or subtracts them, each at its coordinate, where that is one of the n.
+fn put_sums(out: &mut [f64], at: usize, n: usize, v: Point, k: Columns, less: bool)
     requires { (at + n ≤ length out.old) × (k.count ≤ 15) }
-    ensures { out.new ≡ sets out.old at (foldl (sub_from v) (take n (drop at out.old)) (take k.count k.column)) }
+    ensures { out.new ≡ sets out.old at (foldl (changed_by less v) (take n (drop at out.old)) (take k.count k.column)) }
 {
-    let count = k.count;
-    let mut i: usize = 0;
-    while i < count {
-        let c = k.column[i];
-        let j = c.column;
-        i += 1;
+    for c in &k.column[..k.count] {
         if c.coord < n {
             let to = at + c.coord;
-            out[to] = out[to] - (v.x * j.x + v.y * j.y);
+            out[to] = changed(less, out[to], v.x * c.column.x + v.y * c.column.y);
         }
     }
 }
@@ -146,8 +116,8 @@ fn put_along(out: &mut [f64], at: usize, coords: usize, v: Point, ka: Columns, k
     ensures { out.new ≡ sets out.old at (foldl (sub_from v) (foldl (add_into v) (replicate coords zero_f) (take ka.count ka.column)) (take kb.count kb.column)) }
 {
     put_zeros(out, at, coords);
-    add_columns(out, at, coords, v, ka);
-    sub_columns(out, at, coords, v, kb);
+    put_sums(out, at, coords, v, ka, false);
+    put_sums(out, at, coords, v, kb, true);
 }
 
 // ---- the rows of a pair
@@ -211,16 +181,12 @@ fn put_there(
     ensures { PutShown bodies q s near.now named.now (shown_in near.now named.now n margin) at result places.old places.new values.old values.new grad.old grad.new slip.old slip.new }
 {
     let mut to = at;
-    let mut i: usize = 0;
-    while i < n {
-        let k = i;
-        i += 1;
-        if is_shown(near, named, n, margin, k) {
-            let x = named[k];
-            let v = near[k];
+    for i in 0..n {
+        if is_shown(near, named, n, margin, i) {
+            let x = named[i];
             places[to] = [s.pair, x[0], x[1], x[2], x[3], x[4], x[5]];
-            values[to] = v;
-            put_columns(grad, slip, to, s, v, bodies, q);
+            values[to] = near[i];
+            put_columns(grad, slip, to, s, near[i], bodies, q);
             to += 1;
         }
     }

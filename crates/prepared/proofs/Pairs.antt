@@ -11,7 +11,6 @@ use Rattle.geometry.specs.declared.Point.{Point}
 use Rattle.mechanism.specs.Check.{check_of, FewParts}
 use Rattle.mechanism.specs.Description.{pair_at}
 use Rattle.bodies.specs.Pose.{placement_at, world_of}
-use Rattle.bodies.specs.declared.Checked.TheVariants.{Accepted}
 use Rattle.mechanism.specs.declared.Mechanism.{Mechanism}
 use Rattle.mechanism.specs.declared.Outlines.{Outlines}
 use Rattle.mechanism.specs.declared.Parts.{Parts}
@@ -38,7 +37,6 @@ use Rattle.prepared_candidates.specs.Prepared.{candidates_from, bound_in}
 use Rattle.faces.specs.Faces.{sides_overlap}
 use Rattle.faces.specs.Prepared.{face_overlap_in}
 use Rattle.faces.proofs.Rows.{overlap_read}
-use Rattle.governing.specs.declared.MaybeRow.{MaybeRow}
 use Rattle.bearings.specs.Bearing.{governed_bearing}
 use Rattle.bearings.proofs.Rows.{governed-read}
 use Rattle.overlap.specs.Overlap.{owner_in, sunk_of, overlap_by, pair_overlap}
@@ -48,6 +46,7 @@ use Rattle.tables.proofs.Features.{features_of, cuts_of, side-a, side-b, geometr
 use Rattle.tables.proofs.Points.{side-read}
 use Rattle.prepared.specs.Prepared.{Holds}
 use Rattle.prepared.proofs.Sunk.{sunk_read}
+use Rattle.std.proofs.Common.{Option, Ok}
 
 -- ---- by the geometry of a pair, which its side's row gives as a number
 module _ (ps : Parts) (o : Outlines) (q : Pose) where
@@ -79,7 +78,7 @@ module _ (ps : Parts) (o : Outlines) (p : ContactPair) where
   b-center = refl
 
 -- ---- pair i of an accepted description
-module _ (m : Mechanism) (e : check_of m ≡ Accepted) {faces : List (List Float)} {fnames : List (List ℕ)} {discs : List (List Float)} {dnames sides : List (List ℕ)} {centers : List (List Float)} {choices : List (List ℕ)} {drawn sampled : List (List Float)}
+module _ (m : Mechanism) (e : check_of m ≡ Ok tt) {faces : List (List Float)} {fnames : List (List ℕ)} {discs : List (List Float)} {dnames sides : List (List ℕ)} {centers : List (List Float)} {choices : List (List ℕ)} {drawn sampled : List (List Float)}
     (t : Holds m faces fnames discs dnames sides centers choices drawn sampled) (i : ℕ) (h : i < m.pairs.count) where
   abbrev parts : List (List ℕ)
   parts = part_table m.parts m.outlines
@@ -107,7 +106,7 @@ module _ (m : Mechanism) (e : check_of m ≡ Accepted) {faces : List (List Float
   pub face-overlap_read : (q : Pose) → face_overlap_in faces sides q i ≡ sides_overlap (features_of m i) q
   face-overlap_read q = overlap_read faces fnames discs dnames sides centers q i ∙ ap (λ (f : PairFeatures). sides_overlap f q) features_read
 
-  pub bearing-read : (q : Pose) (row : ℕ → Row) (g : MaybeRow) → governed_bearing (pair_in faces fnames discs dnames sides [] i) q row g ≡ governed_bearing (features_of m i) q row g
+  pub bearing-read : (q : Pose) (row : ℕ → Row) (g : Option ℕ) → governed_bearing (pair_in faces fnames discs dnames sides [] i) q row g ≡ governed_bearing (features_of m i) q row g
   bearing-read q row g = sym (governed-read faces fnames discs dnames sides centers i q row g) ∙ ap (λ (f : PairFeatures). governed_bearing f q row g) features_read
 
   module _ (q : Pose) where

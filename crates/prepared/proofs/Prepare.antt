@@ -10,8 +10,6 @@ use Rattle.laws.specs.Lists.{flat}
 use Rattle.laws.proofs.Lists.{flat-short, list_length}
 use Rattle.laws.proofs.Writing.{sets-taken}
 use Rattle.geometry.specs.declared.Point.{Point}
-use Rattle.bodies.specs.declared.Checked.{Checked}
-use Rattle.bodies.specs.declared.Checked.TheVariants.{Accepted}
 use Rattle.mechanism.specs.Check.{check_of}
 use Rattle.mechanism.specs.Description.{pair_at, segs_of}
 use Rattle.mechanism.specs.declared.Mechanism.{Mechanism}
@@ -23,8 +21,10 @@ use Rattle.tables.proofs.Puts.{up-within, drawn-each, sampled_each}
 use Rattle.tables.proofs.Points.{sets-agrees, table_long}
 use Rattle.prepared.specs.Prepared.{PrepareReads}
 use Rattle.prepared.proofs.Whole.{prepared_reads}
+use Rattle.std.proofs.Common.{Ok}
+use Rattle.bodies.specs.Check.{Checked}
 
-module _ (m : Mechanism) (e : check_of m ≡ Accepted) where
+module _ (m : Mechanism) (e : check_of m ≡ Ok tt) where
   abbrev Written : {A : Type 0} → List (List A) → List (List A) → Type 0
   Written l t = Agrees (written_if (check_of m) l t) t
 

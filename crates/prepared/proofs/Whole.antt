@@ -14,18 +14,15 @@ use Rattle.laws.specs.Loops.{any_in}
 use Rattle.laws.proofs.Choice.{or_no}
 use Rattle.laws.proofs.Finite.{any-all}
 use Rattle.laws.proofs.Sums.{sum_same}
-use Rattle.bodies.specs.Check.{is_accepted, and_then, refused_if, bodies_stand}
+use Rattle.bodies.specs.Check.{Checked, and_then, refused_if, bodies_stand}
 use Rattle.mechanism.specs.Check.{check_of, then_called, call_checked, answer_of}
 use Rattle.mechanism.specs.Description.{pair_at}
-use Rattle.bodies.specs.Pose.{bodies_posed, pose_fits}
+use Rattle.bodies.specs.Pose.{bodies_placed, bodies_posed, pose_fits}
 use Rattle.mechanism.specs.Pose.{pose_checked}
 use Rattle.mechanism.specs.Rows.{place_row, value_row, gap_in}
 use Rattle.mechanism.specs.Rows as Rows
-use Rattle.bodies.specs.declared.Checked.{Checked}
-use Rattle.bodies.specs.declared.Checked.TheVariants.{Accepted, Refused}
 use Rattle.mechanism.specs.declared.Mechanism.{Mechanism}
 use Rattle.bodies.specs.declared.Problem.TheVariants.{LimitPassed, PoseNotMatching, NoSuchThing, TooFewRows}
-use Rattle.mechanism.specs.declared.bearing.MaybeBearing.{MaybeBearing}
 use Rattle.bodies.specs.declared.pose.Pose.{Pose}
 use Rattle.mechanism.specs.declared.rows.Row.{Row}
 use Rattle.bodies.proofs.Checks.{goes_on, goes-on_if}
@@ -44,12 +41,15 @@ use Rattle.prepared_rows.specs.Prepared.{rows_from, grads_from, slips_from, all_
 use Rattle.shown_rows.proofs.Fits.{feature_a, feature_b}
 use Rattle.shown_rows.proofs.Fits as Fits
 use Rattle.reading.specs.Reading.{no_pair_reading, pair_reading, pair_readings, read_if, reading_of}
-use Rattle.reading.specs.Prepared.{pose_of, pair_reading_in, pair_readings_in, read_in, read_checked}
+use Rattle.reading.specs.Prepared.{pair_reading_in, pair_readings_in, read_in, read_checked}
 use Rattle.reading.specs.declared.PairReading.{PairReading}
 use Rattle.reading.specs.declared.Reading.{Reading}
 use Rattle.tables.specs.Tables.{part_table}
 use Rattle.prepared.specs.Prepared.{Holds, ReadsAs}
 use Rattle.prepared.proofs.Pairs.{body_a_lem, body_b, features_read, bound-read, face-overlap_read, bearing-read, candidates_read, pair-overlap_read}
+use Rattle.std.proofs.Common.{Option, Result, Ok, Err, is_ok}
+use Rattle.bodies.specs.declared.Problem.{Problem}
+use Rattle.mechanism.specs.declared.bearing.Bearing.{Bearing}
 
 -- ---- lists over indexes on which two functions agree
 flat_in : {A : Type 0} (f g : ℕ → List A) (k j : ℕ) → ((i : ℕ) → i < j + k → f i ≡ g i) → flat f (list_in (λ i. i) k j) ≡ flat g (list_in (λ i. i) k j)
@@ -65,11 +65,11 @@ list_in_lem {A} f g (suc k) j e = ap₂ (λ (a : A) (l : List A). a ∷ l) (e j 
 -- ---- checks
 -- where there is no such pair the number does not matter
 no_pair_lem : (c : Checked) (fits : Bool) (x y : Float) → answer_of (then_called c fits false true) x ≡ answer_of (then_called c fits false true) y
-no_pair_lem Accepted true x y = refl
-no_pair_lem Accepted false x y = refl
-no_pair_lem (Refused p) fits x y = refl
+no_pair_lem (Ok tt) true x y = refl
+no_pair_lem (Ok tt) false x y = refl
+no_pair_lem (Err p) fits x y = refl
 
-module _ (m : Mechanism) (e : check_of m ≡ Accepted) {faces : List (List Float)} {fnames : List (List ℕ)} {discs : List (List Float)} {dnames sides : List (List ℕ)} {centers : List (List Float)} {choices : List (List ℕ)} {drawn sampled : List (List Float)}
+module _ (m : Mechanism) (e : check_of m ≡ Ok tt) {faces : List (List Float)} {fnames : List (List ℕ)} {discs : List (List Float)} {dnames sides : List (List ℕ)} {centers : List (List Float)} {choices : List (List ℕ)} {drawn sampled : List (List Float)}
     (t : Holds m faces fnames discs dnames sides centers choices drawn sampled) where
   abbrev parts : List (List ℕ)
   parts = part_table m.parts m.outlines
@@ -131,9 +131,9 @@ module _ (m : Mechanism) (e : check_of m ≡ Accepted) {faces : List (List Float
     checked-as =
         let here = from (any_in (falls_off m.bodies.count sides) m.pairs.count 0) (bounds_in sides m.pairs.count) in
         goes-on_if LimitPassed (and_then (bodies_stand m.bodies) here) few-pairs
-        ∙ goes_on (bodies_stand m.bodies) here (ap is_accepted (accepted-stand m e))
+        ∙ goes_on (bodies_stand m.bodies) here (ap is_ok (accepted-stand m e))
         ∙ ap₂ from none-off all-bounds
-        ∙ sym (goes_on (check_of m) (from false (mechanism_bound m)) (ap is_accepted e))
+        ∙ sym (goes_on (check_of m) (from false (mechanism_bound m)) (ap is_ok e))
 
   -- ---- a pair's overlap, asked for by itself
   module _ (q : Pose) (i : ℕ) where
@@ -162,7 +162,7 @@ module _ (m : Mechanism) (e : check_of m ≡ Accepted) {faces : List (List Float
     module _ (places : List (List ℕ)) (values : List (List Float)) (n : ℕ) where
       reading-of-pair : (i : ℕ) → i < m.pairs.count → pair_reading_in faces fnames discs dnames sides centers choices drawn sampled parts q places values n i ≡ pair_reading m q places values n i
       reading-of-pair i h =
-          let made : Float → Float → MaybeBearing → PairReading = λ a b c. record { overlap = a; face_overlap = b; bearing = c } in
+          let made : Float → Float → Option Bearing → PairReading = λ a b c. record { overlap = a; face_overlap = b; bearing = c } in
           ap₂ (λ (a b : Float). made a b (pair_reading_in faces fnames discs dnames sides centers choices drawn sampled parts q places values n i).bearing) (pair-overlap_read m e t i h q) (face-overlap_read m e t i h q)
           ∙ ap (made (pair_reading m q places values n i).overlap (pair_reading m q places values n i).face_overlap) (bearing-read m e t i h q (row_at places values) (governing_of (Rows.pair_in places) (gap_in values) n i))
 
@@ -170,10 +170,10 @@ module _ (m : Mechanism) (e : check_of m ≡ Accepted) {faces : List (List Float
       all-readings = ap (filled 16 no_pair_reading) (list_in_lem (pair_reading_in faces fnames discs dnames sides centers choices drawn sampled parts q places values n) (pair_reading m q places values n) m.pairs.count 0 (λ i h. reading-of-pair i (omega (arith, h))))
 
     read_by : (c : Checked) (rows : List Row) → read_in faces fnames discs dnames sides centers choices drawn sampled parts c m.pairs.count q rows ≡ read_if c m q rows
-    read_by Accepted rows =
-        let made : List PairReading → Reading = λ l. record { checked = Accepted; count = length rows; pairs = m.pairs.count; pair = l } in
+    read_by (Ok tt) rows =
+        let made : List PairReading → Result Reading Problem = λ l. Ok (record { count = length rows; pairs = m.pairs.count; pair = l }) in
         ap made (all-readings (map place_row rows) (map value_row rows) (length rows))
-    read_by (Refused p) rows = refl
+    read_by (Err p) rows = refl
 
     whole-reading : (margin : Float) (w x y z : ℕ)
         → read_in faces fnames discs dnames sides centers choices drawn sampled parts (prepared_checked m.bodies m.pairs.count sides q w x y z) m.pairs.count q (all_rows faces fnames discs dnames sides centers choices drawn parts q margin m.pairs.count)
@@ -183,11 +183,11 @@ module _ (m : Mechanism) (e : check_of m ≡ Accepted) {faces : List (List Float
         ap₂ (λ (c : Checked) (l : List Row). read_in faces fnames discs dnames sides centers choices drawn sampled parts c m.pairs.count q l) (checked-as q w x y z) (all-rows q margin)
         ∙ read_by (rows_checked m q w x y z) (rows_of m q margin)
 
-  read_checked-as : (entries : List (List Float)) (w x y z : ℕ) → read_checked m.bodies m.pairs.count sides entries w x y z ≡ and_then (pose_checked m entries) (rows_checked m (pose_of m.bodies entries) w x y z)
+  read_checked-as : (entries : List (List Float)) (w x y z : ℕ) → read_checked m.bodies m.pairs.count sides entries w x y z ≡ and_then (pose_checked m entries) (rows_checked m (bodies_placed m.bodies entries) w x y z)
   unfolding read_checked
   read_checked-as entries w x y z =
-      goes-on_if LimitPassed (and_then (bodies_posed m.bodies entries) (prepared_checked m.bodies m.pairs.count sides (pose_of m.bodies entries) w x y z)) few-pairs
-      ∙ ap₂ and_then (posed_bodies m entries e) (checked-as (pose_of m.bodies entries) w x y z)
+      goes-on_if LimitPassed (and_then (bodies_posed m.bodies entries) (prepared_checked m.bodies m.pairs.count sides (bodies_placed m.bodies entries) w x y z)) few-pairs
+      ∙ ap₂ and_then (posed_bodies m entries e) (checked-as (bodies_placed m.bodies entries) w x y z)
 
   pub prepared_reads : ReadsAs m faces fnames discs dnames sides centers choices drawn sampled
   prepared_reads = record {

@@ -1,9 +1,8 @@
 -- The tables of a description, in lent arrays, and what is read over them. Definitions only.
-use Rattle.std.specs.Prelude.{ℕ, ◌≡◌, List, Float, length, take}
+use Rattle.std.specs.Prelude.{ℕ, ◌≡◌, List, Float, length, take, Ok}
 use Rattle.bodies.specs.Check.{and_then}
-use Rattle.bodies.specs.declared.Checked.TheVariants.{Accepted}
 use Rattle.mechanism.specs.Check.{check_of}
-use Rattle.bodies.specs.Pose.{bodies_posed}
+use Rattle.bodies.specs.Pose.{bodies_placed, bodies_posed}
 use Rattle.mechanism.specs.Pose.{pose_checked}
 use Rattle.mechanism.specs.declared.Mechanism.{Mechanism}
 use Rattle.bodies.specs.declared.pose.Pose.{Pose}
@@ -13,7 +12,7 @@ use Rattle.overlap.specs.Prepared.{pair_overlap_answer_in}
 use Rattle.shown_rows.specs.Rows.{rows_of, grads_of, slips_of, rows_checked}
 use Rattle.prepared_rows.specs.Prepared.{all_rows, all_grads, all_slips, bounds_in, prepared_checked}
 use Rattle.reading.specs.Reading.{pair_readings, reading_of}
-use Rattle.reading.specs.Prepared.{pose_of, pair_readings_in, read_in, read_checked}
+use Rattle.reading.specs.Prepared.{pair_readings_in, read_in, read_checked}
 use Rattle.tables.specs.Tables.{Agrees, written_if, face_table, face_name_table, disc_table, disc_name_table, side_table, center_table, choice_table, drawn_table, sampled_table, part_table}
 
 -- the tables of m, that of its parts apart, stand in the front of the arrays
@@ -41,7 +40,7 @@ pub record ReadsAs (m : Mechanism) (face_rows : List (List Float)) (face_names :
       → read_in face_rows face_names disc_rows disc_names sideRows centerRows choiceRows drawnRows sampledRows (part_table m.parts m.outlines) (prepared_checked m.bodies m.pairs.count sideRows q w x y z) m.pairs.count q (all_rows face_rows face_names disc_rows disc_names sideRows centerRows choiceRows drawnRows (part_table m.parts m.outlines) q margin m.pairs.count)
       ≡ reading_of m q margin w x y z
   pub posed : (entries : List (List Float)) → bodies_posed m.bodies entries ≡ pose_checked m entries
-  pub read_checks : (entries : List (List Float)) (w x y z : ℕ) → read_checked m.bodies m.pairs.count sideRows entries w x y z ≡ and_then (pose_checked m entries) (rows_checked m (pose_of m.bodies entries) w x y z)
+  pub read_checks : (entries : List (List Float)) (w x y z : ℕ) → read_checked m.bodies m.pairs.count sideRows entries w x y z ≡ and_then (pose_checked m entries) (rows_checked m (bodies_placed m.bodies entries) w x y z)
 
 -- the arrays that `prepare` is lent, by their lengths
 pub record Lent (face_rows : List (List Float)) (face_names : List (List ℕ)) (disc_rows : List (List Float)) (disc_names sideRows : List (List ℕ)) (centerRows : List (List Float)) (choiceRows : List (List ℕ)) (drawnRows sampledRows : List (List Float)) (partRows : List (List ℕ)) : Type 0 where
@@ -61,6 +60,6 @@ abbrev pub PrepareReads : Mechanism → Type 0
 PrepareReads m =
     (face_rows : List (List Float)) (face_names : List (List ℕ)) (disc_rows : List (List Float)) (disc_names sideRows : List (List ℕ)) (centerRows : List (List Float)) (choiceRows : List (List ℕ)) (drawnRows sampledRows : List (List Float)) (partRows : List (List ℕ))
     → Lent face_rows face_names disc_rows disc_names sideRows centerRows choiceRows drawnRows sampledRows partRows
-    → check_of m ≡ Accepted
+    → check_of m ≡ Ok tt
     → ReadsAs m (written_if (check_of m) face_rows (face_table m)) (written_if (check_of m) face_names (face_name_table m)) (written_if (check_of m) disc_rows (disc_table m)) (written_if (check_of m) disc_names (disc_name_table m)) (written_if (check_of m) sideRows (side_table m)) (written_if (check_of m) centerRows (center_table m)) (written_if (check_of m) choiceRows (choice_table m)) (written_if (check_of m) drawnRows (drawn_table m.parts m.outlines)) (written_if (check_of m) sampledRows (sampled_table m.parts m.outlines))
     × (take m.parts.count (written_if (check_of m) partRows (part_table m.parts m.outlines)) ≡ part_table m.parts m.outlines)

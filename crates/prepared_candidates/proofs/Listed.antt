@@ -3,11 +3,13 @@ use Prim.Native.Nat.{ℕ, zero, suc, ◌+◌, ◌*◌, ◌<◌, ◌≤◌}
 use native.Mathlib.Omega.{arith}
 use native.Mathlib.Numerals.{add-one}
 use native.Mathlib.Nat.{add-zero, add-suc, suc-add}
-use mathlib.Core.Path.{◌≡◌, sym, ap, ◌∙◌}
-use mathlib.Core.List.{List, [], ◌∷◌, ◌++◌, append-nil}
+use mathlib.Core.Path.{◌≡◌, sym, ap, ap₂, ◌∙◌}
+use mathlib.Core.List.{List, [], ◌∷◌, ◌++◌, map, map-append, append-nil}
 use lib.Ieee.{Float}
-use lib.ListN.{length}
+use lib.ListN.{length, set, length-map}
+use lib.Seq.{sets}
 use Rattle.laws.specs.Lists.{list_in, flat}
+use Rattle.laws.proofs.Writing.{sets-append}
 use Rattle.laws.proofs.Lists.{flat_append, flat-short, list_length}
 use Rattle.proximities.specs.declared.Candidate.{Candidate}
 use Rattle.proximities.specs.Proximities.{each, Written}
@@ -58,42 +60,48 @@ module _ (x y z : ℕ) {near₀ : List (List Float)} {named₀ : List (List ℕ)
       let d' = wrote_named w in
       (omega (arith, e, h, p, c, f, k, c'), omega (arith, e, h, q, d, f, k, d'))
 
--- ---- A loop over the indexes below n: the candidates of the first i elements are written from `at` up to `to`.
-pub record Listed {A : Type 0} (f : A → List Candidate) (g : ℕ → A) (n at to i : ℕ) (near₀ near : List (List Float)) (named₀ named : List (List ℕ)) : Type 0 where
-  pub far : i ≤ n
+-- ---- A loop over the indexes from 0: the candidates of the first i elements are written from `at` up to `to`.
+pub record Listed {A : Type 0} (f : A → List Candidate) (g : ℕ → A) (at to i : ℕ) (near₀ near : List (List Float)) (named₀ named : List (List ℕ)) : Type 0 where
   pub done : Written (flat f (list_in g i 0)) at to near₀ near named₀ named
 
-pub listed_start : {A : Type 0} (f : A → List Candidate) (g : ℕ → A) (n at : ℕ) (near : List (List Float)) (named : List (List ℕ)) → Listed f g n at at 0 near near named named
+pub listed_start : {A : Type 0} (f : A → List Candidate) (g : ℕ → A) (at : ℕ) (near : List (List Float)) (named : List (List ℕ)) → Listed f g at at 0 near near named named
 unfolding flat list_in
-listed_start f g n at near named = record { far = omega arith; done = wrote_nothing at near named }
+listed_start f g at near named = record { done = wrote_nothing at near named }
 
-module _ {A : Type 0} {f : A → List Candidate} {g : ℕ → A} {n at to i : ℕ} {near₀ near : List (List Float)} {named₀ named : List (List ℕ)} (w : Listed f g n at to i near₀ near named₀ named) where
-  pub listed_more : {to' : ℕ} {near' : List (List Float)} {named' : List (List ℕ)} {x : A} → i < n → x ≡ g i → Written (f x) to to' near near' named named' → Listed f g n at to' (i + 1) near₀ near' named₀ named'
-  listed_more h e v = record { far = omega arith; done = wrote_same (sym (flat-last f g i)) (wrote_both w.done (wrote_same (ap f e) v)) }
+module _ {A : Type 0} {f : A → List Candidate} {g : ℕ → A} {at to i : ℕ} {near₀ near : List (List Float)} {named₀ named : List (List ℕ)} (w : Listed f g at to i near₀ near named₀ named) where
+  pub listed_more : {to' : ℕ} {near' : List (List Float)} {named' : List (List ℕ)} {x : A} → x ≡ g i → Written (f x) to to' near near' named named' → Listed f g at to' (i + 1) near₀ near' named₀ named'
+  listed_more e v = record { done = wrote_same (sym (flat-last f g i)) (wrote_both w.done (wrote_same (ap f e) v)) }
 
-  pub listed-end : n ≤ i → Written (flat f (list_in g n 0)) at to near₀ near named₀ named
-  listed-end h =
-      let k = w.far in
-      let e : i ≡ n = omega arith in
-      wrote_same (ap (λ (j : ℕ). flat f (list_in g j 0)) e) w.done
+  pub listed-end : {n : ℕ} → i ≡ n → Written (flat f (list_in g n 0)) at to near₀ near named₀ named
+  listed-end e = wrote_same (ap (λ (j : ℕ). flat f (list_in g j 0)) e) w.done
 
-  -- the next place to write, where an element gives at most b
-  listed-upto : (b : ℕ) → ((x : A) → length (f x) ≤ b) → to ≤ at + i * b
-  listed-upto b h = let e = w.done.end in let s = list_few f b h g i in omega (arith, e, s)
-
-  -- room for one more turn of b
-  pub listed-room : (b : ℕ) → ((x : A) → length (f x) ≤ b) → i < n → at + n * b ≤ length near₀ → at + n * b ≤ length named₀ → (to + b ≤ length near) × (to + b ≤ length named)
-  listed-room b h k p q =
-      let u = listed-upto b h in
+  -- room for one more turn, where an element gives at most b
+  pub listed-room : (b n : ℕ) → ((x : A) → length (f x) ≤ b) → i < n → at + n * b ≤ length near₀ → at + n * b ≤ length named₀ → (to + b ≤ length near) × (to + b ≤ length named)
+  listed-room b n h k p q =
+      let e = w.done.end in
+      let s = list_few f b h g i in
       let o = one_more i n b k in
       let x = wrote_near w.done in
       let y = wrote_named w.done in
-      (omega (arith, u, o, p, x), omega (arith, u, o, q, y))
+      (omega (arith, e, s, o, p, x), omega (arith, e, s, o, q, y))
 
   -- and where an element gives at most one
-  pub listed-one : ((x : A) → length (f x) ≤ 1) → i < n → at + n ≤ length near₀ → at + n ≤ length named₀ → (to < length near) × (to < length named)
-  listed-one h k p q =
-      let u = listed-upto 1 h in
+  pub listed-one : (n : ℕ) → ((x : A) → length (f x) ≤ 1) → i < n → at + n ≤ length near₀ → at + n ≤ length named₀ → (to < length near) × (to < length named)
+  listed-one n h k p q =
+      let e = w.done.end in
+      let s = list_few f 1 h g i in
       let x = wrote_near w.done in
       let y = wrote_named w.done in
-      (omega (arith, u, k, p, x), omega (arith, u, k, q, y))
+      (omega (arith, e, s, k, p, x), omega (arith, e, s, k, q, y))
+
+-- ---- one more row written, of the elements from `first` on
+pub rows_more : {A B C : Type 0} (row : B → C) (g : A → B) (f : ℕ → A) (out₀ out : List C) (first i : ℕ) {x : C} → out ≡ sets out₀ 0 (map row (map g (list_in f i first))) → x ≡ row (g (f (first + i)))
+    → set out i x ≡ sets out₀ 0 (map row (map g (list_in f (i + 1) first)))
+rows_more {A} {B} {C} row g f out₀ out first i {x} e d =
+    let xs : List C = map row (map g (list_in f i first)) in
+    let n : i ≡ 0 + length xs = let a = length-map (map g (list_in f i first)) row in let b = length-map (list_in f i first) g in let c = list_length f i first in omega arith in
+    let last : map row (map g (list_in f (i + 1) first)) ≡ xs ++ (row (g (f (first + i))) ∷ []) =
+    ap (λ (k : ℕ). map row (map g (list_in f k first))) (add-one i) ∙ ap (λ (l : List A). map row (map g l)) (list_last f i first)
+    ∙ ap (map row) (map-append g (list_in f i first) (f (first + i) ∷ [])) ∙ map-append row (map g (list_in f i first)) (g (f (first + i)) ∷ []) in
+    ap₂ (λ (l : List C) (y : C). set l i y) e d ∙ ap (λ (k : ℕ). set (sets out₀ 0 xs) k (row (g (f (first + i))))) n
+    ∙ sym (sets-append xs (row (g (f (first + i))) ∷ []) out₀ 0) ∙ ap (sets out₀ 0) (sym last)

@@ -1,7 +1,6 @@
 -- The candidates of a pair over a prepared description: by its sides' lists of faces and discs, and how many there are at most. Assumes nothing.
 use Prim.Native.Nat.{ℕ, ◌+◌, ◌*◌, ◌≤◌}
 use native.Mathlib.Omega.{arith}
-use native.Mathlib.Nat.{mul-le-mul}
 use mathlib.Core.Path.{◌≡◌, sym, ap, ap₂, ◌∙◌}
 use mathlib.Core.List.{List, [], map}
 use lib.Ieee.{Float}
@@ -19,7 +18,7 @@ use Rattle.bodies.specs.declared.pose.Pose.{Pose}
 use Rattle.sides.specs.Features.{side_from, no_face, no_disc}
 use Rattle.sides.specs.declared.PlacedDisc.{PlacedDisc}
 use Rattle.sides.specs.declared.PlacedFace.{PlacedFace}
-use Rattle.strips.specs.Strips.{side_at, point_at, faces_of_side, discs_of_side, row_a, row_b, row_of_material, side_in, pair_in, SmallSide}
+use Rattle.strips.specs.Strips.{side_at, point_at, faces_of_side, discs_of_side, row_a, row_b, row_of_material, side_in, pair_in}
 use Rattle.strips.specs.declared.SideFacts.{SideFacts}
 use Rattle.strips.proofs.Bounds.{side-small}
 use Rattle.drawing.specs.Prepared.{choice_at, material_or}
@@ -87,10 +86,3 @@ module _ (sides : List (List ℕ)) (i : ℕ) {a : SideFacts} (ea : a ≡ side_at
   center_bound n =
       ap (λ (s : SideFacts). s.faces) ea
       ∙ sym (cond_no _ _ (ne_eqb (side_at sides (row_a i)).geometry 0 (λ h. n (ap (λ (s : SideFacts). s.geometry) ea ∙ h))))
-
-pub few-places : {a b : SideFacts} → SmallSide a → SmallSide b → (a.discs * b.faces ≤ 336) × (b.discs * a.faces ≤ 336) × (a.discs * b.discs ≤ 784)
-few-places {a} {b} s t =
-    let x : a.discs * b.faces ≤ 28 * 12 = mul-le-mul s.discs_few t.faces_few in
-    let y : b.discs * a.faces ≤ 28 * 12 = mul-le-mul t.discs_few s.faces_few in
-    let z : a.discs * b.discs ≤ 28 * 28 = mul-le-mul s.discs_few t.discs_few in
-    (omega (arith, x), omega (arith, y), omega (arith, z))

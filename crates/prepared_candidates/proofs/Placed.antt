@@ -1,5 +1,5 @@
 -- Faces and discs in rows: those that are read with their pieces, and those that are written in the world and read back. Assumes nothing.
-use Prim.Native.Nat.{ℕ, zero, suc, ◌+◌, ◌-◌, ◌<◌, ◌≤◌}
+use Prim.Native.Nat.{ℕ, zero, suc, ◌+◌, ◌<◌, ◌≤◌}
 use native.Mathlib.Omega.{arith}
 use native.Mathlib.Nat.{add-zero, add-suc}
 use mathlib.Core.Path.{◌≡◌, refl, sym, ap, ap₂, ◌∙◌}
@@ -8,13 +8,14 @@ use mathlib.Core.Bool.{Bool}
 use lib.Ieee.{Float}
 use lib.ListN.{length, get_or, replicate, length-replicate}
 use lib.Seq.{sets, get_or-take}
-use Rattle.laws.specs.Lists.{list_in, any}
+use Rattle.std.specs.List.{list_any, range_with_len}
+use native.Mathlib.Numerals.{add-one}
+use Rattle.laws.specs.Lists.{list_in}
 use Rattle.laws.proofs.Lists.{list_get, list_length}
 use Rattle.laws.proofs.Writing.{sets-taken}
 use Rattle.ieee.specs.Consts.{zero_f}
 use Rattle.geometry.specs.Signed.{disc_on_face, center_on_face}
 use Rattle.geometry.specs.declared.Point.{Point}
-use Rattle.geometry.specs.declared.signed.MaybeProximity.{MaybeProximity}
 use Rattle.geometry.specs.declared.signed.Disc.{Disc}
 use Rattle.geometry.specs.declared.signed.Face.{Face}
 use Rattle.mechanism.specs.declared.features.Piece.{Piece}
@@ -25,6 +26,8 @@ use Rattle.material.specs.Material.{Material}
 use Rattle.strips.specs.Strips.{face_at, disc_at, piece_at, face_from, disc_from, face_row, disc_row, faces_from, discs_from}
 use Rattle.proximities.specs.Proximities.{world_face, world_disc, found_deep}
 use Rattle.candidates.specs.Candidates.{place_face, place_disc, disc_deep, any_deep, center_deep, candidates_in}
+use Rattle.std.proofs.Common.{Option}
+use Rattle.geometry.specs.declared.signed.Proximity.{Proximity}
 
 -- ---- one row and its piece
 pub face-named : (faces : List (List Float)) (names : List (List ℕ)) (from k : ℕ) {piece : Piece} {face : Face} → piece ≡ piece_at names (from + k) → face ≡ face_at faces k
@@ -56,30 +59,26 @@ list_from f k j = ap (list_in f k) (sym (add-zero j)) ∙ list_moved f j k 0
 pub rows-from : {A B C : Type 0} (row : B → C) (g : A → B) (f : ℕ → A) (n first : ℕ) → map row (map g (list_in f n first)) ≡ list_in (λ i. row (g (f (first + i)))) n 0
 rows-from row g f n first = ap (map row) (map-listed g f n first) ∙ map-listed row (λ i. g (f i)) n first ∙ list_from (λ i. row (g (f i))) n first
 
--- the list of a loop's first turn
-pub list_whole : {A : Type 0} (f : ℕ → A) (n : ℕ) → list_in f (n - 0) 0 ≡ list_in f n 0
-list_whole f n = let z : n - 0 ≡ n = omega arith in ap (λ (k : ℕ). list_in f k 0) z
-
--- two lists whose elements pass alike
-any-alike : {A B : Type 0} (p : A → Bool) (q : B → Bool) (f : ℕ → A) (g : ℕ → B) → ((i : ℕ) → p (f i) ≡ q (g i)) → (k j : ℕ) → any p (list_in f k j) ≡ any q (list_in g k j)
-unfolding any list_in
-any-alike p q f g e zero j = refl
-any-alike p q f g e (suc k) j = rw (e j, any-alike p q f g e k (suc j))
+-- indexes, and elements made of them, that pass alike
+any-alike : {B : Type 0} (p : ℕ → Bool) (q : B → Bool) (g : ℕ → B) → ((i : ℕ) → p i ≡ q (g i)) → (k j : ℕ) → list_any p (range_with_len j k) ≡ list_any q (list_in g k j)
+unfolding list_in
+any-alike p q g e zero j = refl
+any-alike p q g e (suc k) j = rw (e j, add-one j, any-alike p q g e k (suc j))
 
 -- a face that is read deep is so with its piece
 module _ (faces : List (List Float)) (names : List (List ℕ)) (from n : ℕ) where
-  face-deep : (found : Face → MaybeProximity) → any (λ f. found_deep (found f)) (list_in (face_at faces) n 0) ≡ any (λ f. found_deep (found f.face)) (faces_from faces 0 names from n)
+  face-deep : (found : Face → Option Proximity) → list_any (λ k. found_deep (found (face_at faces k))) (range_with_len 0 n) ≡ list_any (λ f. found_deep (found f.face)) (faces_from faces 0 names from n)
   face-deep found =
-      any-alike (λ f. found_deep (found f)) (λ f. found_deep (found f.face)) (face_at faces) (λ i. record { piece = piece_at names (from + i); face = face_at faces (0 + i) })
+      any-alike (λ k. found_deep (found (face_at faces k))) (λ f. found_deep (found f.face)) (λ i. record { piece = piece_at names (from + i); face = face_at faces (0 + i) })
       (λ i. let z : i ≡ 0 + i = omega arith in ap (λ (k : ℕ). found_deep (found (face_at faces k))) z) n 0
 
-  pub center_deep-named : (c : Point) → any (λ f. found_deep (center_on_face c f)) (list_in (face_at faces) n 0) ≡ center_deep (faces_from faces 0 names from n) c
+  pub center_deep-named : (c : Point) → list_any (λ k. found_deep (center_on_face c (face_at faces k))) (range_with_len 0 n) ≡ center_deep (faces_from faces 0 names from n) c
   center_deep-named c = face-deep (λ f. center_on_face c f)
 
   pub any-deep-named : (discs : List (List Float)) (dnames : List (List ℕ)) (dfrom m : ℕ)
-      → any (λ d. any (λ f. found_deep (disc_on_face d f)) (list_in (face_at faces) n 0)) (list_in (disc_at discs) m 0) ≡ any_deep (discs_from discs 0 dnames dfrom m) (faces_from faces 0 names from n)
+      → list_any (λ i. list_any (λ k. found_deep (disc_on_face (disc_at discs i) (face_at faces k))) (range_with_len 0 n)) (range_with_len 0 m) ≡ any_deep (discs_from discs 0 dnames dfrom m) (faces_from faces 0 names from n)
   any-deep-named discs dnames dfrom m =
-      any-alike (λ d. any (λ f. found_deep (disc_on_face d f)) (list_in (face_at faces) n 0)) (λ d. disc_deep (faces_from faces 0 names from n) d.disc) (disc_at discs)
+      any-alike (λ i. list_any (λ k. found_deep (disc_on_face (disc_at discs i) (face_at faces k))) (range_with_len 0 n)) (λ d. disc_deep (faces_from faces 0 names from n) d.disc)
       (λ i. record { piece = piece_at dnames (dfrom + i); disc = disc_at discs (0 + i) })
       (λ i. let z : i ≡ 0 + i = omega arith in face-deep (λ f. disc_on_face (disc_at discs i) f) ∙ ap (λ (k : ℕ). disc_deep (faces_from faces 0 names from n) (disc_at discs k)) z) m 0
 

@@ -3,7 +3,8 @@
 
 ghost use Rattle.std.specs.Prelude.{◌≡◌, cond, [], map, ◌+◌, ◌*◌, ◌≤◌, length};
 ghost use Rattle.std.proofs.lemmas.List.Edits.{sets};
-ghost use Rattle.laws.specs.Lists.{list_in, flat, any};
+ghost use Rattle.std.specs.List.{list_any, range_with_len};
+ghost use Rattle.laws.specs.Lists.{list_in, flat};
 ghost use Rattle.geometry.specs.Signed.{disc_on_face, center_on_face};
 ghost use Rattle.material.specs.Material.{material_of};
 ghost use Rattle.drawing.specs.Prepared.{all_drawn, material_in, material_or};
@@ -16,7 +17,7 @@ use bodies::pose::{Placement, Pose, placement_at};
 use drawing::prepared::{all_drawn, choice_at, draw_in};
 use drawing::{Chosen, Polygons};
 use geometry::Point;
-use geometry::signed::{Disc, Face, MaybeProximity};
+use geometry::signed::Disc;
 use material::Spot;
 use mechanism::features::Piece;
 use mechanism::rows::{Place, Value};
@@ -31,26 +32,24 @@ use strips::{
 // ---- a side in the world
 
 // Writes n faces from row `first` on, placed.
+#[tactic(auto, unfolding(laws::specs::Lists::list_in))]
 fn place_faces(out: &mut [FaceRow], faces: &[FaceRow], first: usize, n: usize, place: Placement)
     requires { (n ≤ length out.old) × (first ≤ 65535) × (n ≤ 12) }
     ensures { out.new ≡ sets out.old 0 (map face_row (map (world_face place) (list_in (face_at faces.now) n first))) }
 {
-    let mut i: usize = 0;
-    while i < n {
+    for i in 0..n {
         out[i] = face_row(world_face(place, face_at(faces, first + i)));
-        i += 1;
     }
 }
 
 // Writes n discs from row `first` on, placed.
+#[tactic(auto, unfolding(laws::specs::Lists::list_in))]
 fn place_discs(out: &mut [DiscRow], discs: &[DiscRow], first: usize, n: usize, place: Placement)
     requires { (n ≤ length out.old) × (first ≤ 65535) × (n ≤ 28) }
     ensures { out.new ≡ sets out.old 0 (map disc_row (map (world_disc place) (list_in (disc_at discs.now) n first))) }
 {
-    let mut i: usize = 0;
-    while i < n {
+    for i in 0..n {
         out[i] = disc_row(world_disc(place, disc_at(discs, first + i)));
-        i += 1;
     }
 }
 
@@ -75,12 +74,10 @@ fn disc_on_b(
     ensures { Written (flat (read_ab (material_of points.now starts.now polygons.solids polygons.all) (record { piece = piece; disc = disc })) (faces_from faces.now 0 names.now from n)) at result near.old near.new named.old named.new }
 {
     let mut to = at;
-    let mut k: usize = 0;
-    while k < n {
+    for k in 0..n {
         let found = on_face_b(points, starts, polygons, disc, face_at(faces, k));
         let other = piece_at(names, from + k);
         to = put_candidate(near, named, to, piece, other, 1, found);
-        k += 1;
     }
     to
 }
@@ -104,12 +101,10 @@ fn disc_on_a(
     ensures { Written (flat (read_ba (material_of points.now starts.now polygons.solids polygons.all) (record { piece = piece; disc = disc })) (faces_from faces.now 0 names.now from n)) at result near.old near.new named.old named.new }
 {
     let mut to = at;
-    let mut k: usize = 0;
-    while k < n {
+    for k in 0..n {
         let found = on_face_a(points, starts, polygons, disc, face_at(faces, k));
         let other = piece_at(names, from + k);
         to = put_candidate(near, named, to, other, piece, 2, found);
-        k += 1;
     }
     to
 }
@@ -132,16 +127,13 @@ fn discs_on_b(
     requires { SmallSide a × SmallSide b × (at + a.discs * b.faces ≤ length near.old) × (at + a.discs * b.faces ≤ length named.old) }
     ensures { Written (each (read_ab (material_of points.now starts.now polygons.solids polygons.all)) (discs_from discs.now 0 dnames.now a.disc a.discs) (faces_from faces.now 0 fnames.now b.face b.faces)) at result near.old near.new named.old named.new }
 {
-    let n = a.discs;
     let mut to = at;
-    let mut i: usize = 0;
-    while i < n {
+    for i in 0..a.discs {
         let piece = piece_at(dnames, a.disc + i);
         let disc = disc_at(discs, i);
         to = disc_on_b(
             near, named, to, piece, disc, faces, fnames, b.face, b.faces, points, starts, polygons,
         );
-        i += 1;
     }
     to
 }
@@ -164,16 +156,13 @@ fn discs_on_a(
     requires { SmallSide b × SmallSide a × (at + b.discs * a.faces ≤ length near.old) × (at + b.discs * a.faces ≤ length named.old) }
     ensures { Written (each (read_ba (material_of points.now starts.now polygons.solids polygons.all)) (discs_from discs.now 0 dnames.now b.disc b.discs) (faces_from faces.now 0 fnames.now a.face a.faces)) at result near.old near.new named.old named.new }
 {
-    let n = b.discs;
     let mut to = at;
-    let mut i: usize = 0;
-    while i < n {
+    for i in 0..b.discs {
         let piece = piece_at(dnames, b.disc + i);
         let disc = disc_at(discs, i);
         to = disc_on_a(
             near, named, to, piece, disc, faces, fnames, a.face, a.faces, points, starts, polygons,
         );
-        i += 1;
     }
     to
 }
@@ -194,12 +183,10 @@ fn disc_on_discs(
     ensures { Written (flat (read_discs (record { piece = piece; disc = disc })) (discs_from discs.now 0 names.now from n)) at result near.old near.new named.old named.new }
 {
     let mut to = at;
-    let mut k: usize = 0;
-    while k < n {
+    for k in 0..n {
         let found = geometry::signed::disc_on_disc(disc, disc_at(discs, k));
         let other = piece_at(names, from + k);
         to = put_candidate(near, named, to, piece, other, 0, found);
-        k += 1;
     }
     to
 }
@@ -218,14 +205,11 @@ fn discs_on_discs(
     requires { SmallSide a × SmallSide b × (at + a.discs * b.discs ≤ length near.old) × (at + a.discs * b.discs ≤ length named.old) }
     ensures { Written (each read_discs (discs_from adiscs.now 0 names.now a.disc a.discs) (discs_from bdiscs.now 0 names.now b.disc b.discs)) at result near.old near.new named.old named.new }
 {
-    let n = a.discs;
     let mut to = at;
-    let mut i: usize = 0;
-    while i < n {
+    for i in 0..a.discs {
         let piece = piece_at(names, a.disc + i);
         let disc = disc_at(adiscs, i);
         to = disc_on_discs(near, named, to, piece, disc, bdiscs, names, b.disc, b.discs);
-        i += 1;
     }
     to
 }
@@ -247,13 +231,11 @@ fn center_on_faces(
     requires { (n ≤ length near.old) × (n ≤ length named.old) × (from ≤ 65535) × (n ≤ 12) }
     ensures { Written (flat (read_center (material_of points.now starts.now polygons.solids polygons.all) piece c) (faces_from faces.now 0 names.now from n)) 0 result near.old near.new named.old named.new }
 {
-    let mut to: usize = 0;
-    let mut k: usize = 0;
-    while k < n {
+    let mut to = 0;
+    for k in 0..n {
         let found = center_on(points, starts, polygons, c, face_at(faces, k));
         let other = piece_at(names, from + k);
         to = put_candidate(near, named, to, other, piece, 2, found);
-        k += 1;
     }
     to
 }
@@ -262,47 +244,23 @@ fn center_on_faces(
 
 // Whether a disc reads deep on one of the first n faces.
 fn disc_deep(d: Disc, faces: &[FaceRow], n: usize) -> bool
-    ensures { result ≡ any (λ f. found_deep (disc_on_face d f)) (list_in (face_at faces.now) n 0) }
+    ensures { result ≡ list_any (λ k. found_deep (disc_on_face d (face_at faces.now k))) (range_with_len 0 n) }
 {
-    let mut k: usize = 0;
-    while k < n {
-        let f = face_at(faces, k);
-        k += 1;
-        if found_deep(geometry::signed::disc_on_face(d, f)) {
-            return true;
-        }
-    }
-    false
+    (0..n).any(|k| found_deep(geometry::signed::disc_on_face(d, face_at(faces, k))))
 }
 
 // Whether one of the first m discs reads deep on one of the first n faces.
 fn any_deep(discs: &[DiscRow], m: usize, faces: &[FaceRow], n: usize) -> bool
-    ensures { result ≡ any (λ d. any (λ f. found_deep (disc_on_face d f)) (list_in (face_at faces.now) n 0)) (list_in (disc_at discs.now) m 0) }
+    ensures { result ≡ list_any (λ i. list_any (λ k. found_deep (disc_on_face (disc_at discs.now i) (face_at faces.now k))) (range_with_len 0 n)) (range_with_len 0 m) }
 {
-    let mut i: usize = 0;
-    while i < m {
-        let d = disc_at(discs, i);
-        i += 1;
-        if disc_deep(d, faces, n) {
-            return true;
-        }
-    }
-    false
+    (0..m).any(|i| disc_deep(disc_at(discs, i), faces, n))
 }
 
 // Whether a centre reads deep on one of the first n faces.
 fn center_deep(c: Point, faces: &[FaceRow], n: usize) -> bool
-    ensures { result ≡ any (λ f. found_deep (center_on_face c f)) (list_in (face_at faces.now) n 0) }
+    ensures { result ≡ list_any (λ k. found_deep (center_on_face c (face_at faces.now k))) (range_with_len 0 n) }
 {
-    let mut k: usize = 0;
-    while k < n {
-        let f = face_at(faces, k);
-        k += 1;
-        if found_deep(geometry::signed::center_on_face(c, f)) {
-            return true;
-        }
-    }
-    false
+    (0..n).any(|k| found_deep(geometry::signed::center_on_face(c, face_at(faces, k))))
 }
 
 // ---- the candidates of two sides, placed
@@ -329,7 +287,7 @@ fn deep_by(
     requires { SmallSide a × SmallSide b × (all_drawn parts.now ≤ length points.old) × (a.discs * b.faces + b.discs * a.faces + a.discs * b.discs ≤ length near.old) × (a.discs * b.faces + b.discs * a.faces + a.discs * b.discs ≤ length named.old) }
     ensures { Written (candidates_in (material_in drawn.now parts.now q ca) (material_in drawn.now parts.now q cb) (faces_from afaces.now 0 fnames.now a.face a.faces) (discs_from adiscs.now 0 dnames.now a.disc a.discs) (faces_from bfaces.now 0 fnames.now b.face b.faces) (discs_from bdiscs.now 0 dnames.now b.disc b.discs)) 0 result near.old near.new named.old named.new }
 {
-    let mut starts = [0usize; 33];
+    let mut starts = [0; 33];
     let n = draw_in(points, &mut starts, drawn, parts, q, cb);
     let i = discs_on_b(
         near,
@@ -380,7 +338,7 @@ fn plain_features(
     ensures { Written (candidates_in no_material no_material (faces_from afaces.now 0 fnames.now a.face a.faces) (discs_from adiscs.now 0 dnames.now a.disc a.discs) (faces_from bfaces.now 0 fnames.now b.face b.faces) (discs_from bdiscs.now 0 dnames.now b.disc b.discs)) 0 result near.old near.new named.old named.new }
 {
     let points = [[0.0; 2]; 1];
-    let starts = [0usize; 1];
+    let starts = [0; 1];
     let n = Polygons {
         solids: 0,
         all: 0,
@@ -395,6 +353,49 @@ fn plain_features(
     discs_on_discs(near, named, j, adiscs, a, bdiscs, b, dnames)
 }
 
+// The same with room for N drawn points of its own.
+fn deep_features_with<const N: usize>(
+    near: &mut [Value],
+    named: &mut [Place],
+    afaces: &[FaceRow],
+    adiscs: &[DiscRow],
+    a: SideFacts,
+    bfaces: &[FaceRow],
+    bdiscs: &[DiscRow],
+    b: SideFacts,
+    fnames: &[PieceRow],
+    dnames: &[PieceRow],
+    drawn: &[PointRow],
+    parts: &[PartRow],
+    q: Pose,
+    ca: Chosen,
+    cb: Chosen,
+) -> usize
+    requires { (all_drawn parts.now ≤ N) × (N ≤ 6144) × SmallSide a × SmallSide b × (a.discs * b.faces + b.discs * a.faces + a.discs * b.discs ≤ length near.old) × (a.discs * b.faces + b.discs * a.faces + a.discs * b.discs ≤ length named.old) }
+    ensures { Written (candidates_in (material_or drawn.now parts.now q ca) (material_or drawn.now parts.now q cb) (faces_from afaces.now 0 fnames.now a.face a.faces) (discs_from adiscs.now 0 dnames.now a.disc a.discs) (faces_from bfaces.now 0 fnames.now b.face b.faces) (discs_from bdiscs.now 0 dnames.now b.disc b.discs)) 0 result near.old near.new named.old named.new }
+{
+    let mut points = [[0.0; 2]; N];
+    deep_by(
+        &mut points,
+        near,
+        named,
+        afaces,
+        adiscs,
+        a,
+        bfaces,
+        bdiscs,
+        b,
+        fnames,
+        dnames,
+        drawn,
+        parts,
+        q,
+        ca,
+        cb,
+    )
+}
+
+// With room for the drawn points, or without material where no room is enough. Each room is a call of its own: a function pays for all its arrays when it is entered.
 fn deep_features(
     near: &mut [Value],
     named: &mut [Place],
@@ -417,30 +418,14 @@ fn deep_features(
 {
     let n = all_drawn(parts);
     if n <= 512 {
-        let mut few = [[0.0; 2]; 512];
-        return deep_by(
-            &mut few, near, named, afaces, adiscs, a, bfaces, bdiscs, b, fnames, dnames, drawn,
-            parts, q, ca, cb,
+        return deep_features_with::<512>(
+            near, named, afaces, adiscs, a, bfaces, bdiscs, b, fnames, dnames, drawn, parts, q, ca,
+            cb,
         );
     }
     if n <= 6144 {
-        let mut points = [[0.0; 2]; 6144];
-        return deep_by(
-            &mut points,
-            near,
-            named,
-            afaces,
-            adiscs,
-            a,
-            bfaces,
-            bdiscs,
-            b,
-            fnames,
-            dnames,
-            drawn,
-            parts,
-            q,
-            ca,
+        return deep_features_with::<6144>(
+            near, named, afaces, adiscs, a, bfaces, bdiscs, b, fnames, dnames, drawn, parts, q, ca,
             cb,
         );
     }
@@ -469,7 +454,7 @@ fn features_candidates(
     requires { SmallSide a × SmallSide b × (a.discs * b.faces + b.discs * a.faces + a.discs * b.discs ≤ length near.old) × (a.discs * b.faces + b.discs * a.faces + a.discs * b.discs ≤ length named.old) }
     ensures { Written (candidates_in (material_or drawn.now parts.now q ca) (material_or drawn.now parts.now q cb) (faces_from afaces.now 0 fnames.now a.face a.faces) (discs_from adiscs.now 0 dnames.now a.disc a.discs) (faces_from bfaces.now 0 fnames.now b.face b.faces) (discs_from bdiscs.now 0 dnames.now b.disc b.discs)) 0 result near.old near.new named.old named.new }
 {
-    if any_deep(adiscs, a.discs, bfaces, b.faces) | any_deep(bdiscs, b.discs, afaces, a.faces) {
+    if any_deep(adiscs, a.discs, bfaces, b.faces) || any_deep(bdiscs, b.discs, afaces, a.faces) {
         return deep_features(
             near, named, afaces, adiscs, a, bfaces, bdiscs, b, fnames, dnames, drawn, parts, q, ca,
             cb,
@@ -499,7 +484,7 @@ fn deep_center_by(
     requires { SmallSide a × (all_drawn parts.now ≤ length points.old) × (a.faces ≤ length near.old) × (a.faces ≤ length named.old) }
     ensures { Written (flat (read_center (material_in drawn.now parts.now q ca) piece c) (faces_from faces.now 0 fnames.now a.face a.faces)) 0 result near.old near.new named.old named.new }
 {
-    let mut starts = [0usize; 33];
+    let mut starts = [0; 33];
     let n = draw_in(points, &mut starts, drawn, parts, q, ca);
     center_on_faces(
         near,
@@ -516,6 +501,7 @@ fn deep_center_by(
     )
 }
 
+#[tactic(auto, unfolding(laws::specs::Lists::list_in))]
 fn plain_center(
     near: &mut [Value],
     named: &mut [Place],
@@ -529,7 +515,7 @@ fn plain_center(
     ensures { Written (flat (read_center no_material piece c) (faces_from faces.now 0 fnames.now a.face a.faces)) 0 result near.old near.new named.old named.new }
 {
     let points = [[0.0; 2]; 1];
-    let starts = [0usize; 1];
+    let starts = [0; 1];
     let n = Polygons {
         solids: 0,
         all: 0,
@@ -537,6 +523,40 @@ fn plain_center(
     };
     center_on_faces(
         near, named, piece, c, faces, fnames, a.face, a.faces, &points, &starts, n,
+    )
+}
+
+// The same with room for N drawn points of its own.
+fn deep_center_with<const N: usize>(
+    near: &mut [Value],
+    named: &mut [Place],
+    piece: Piece,
+    c: Point,
+    faces: &[FaceRow],
+    fnames: &[PieceRow],
+    a: SideFacts,
+    drawn: &[PointRow],
+    parts: &[PartRow],
+    q: Pose,
+    ca: Chosen,
+) -> usize
+    requires { (all_drawn parts.now ≤ N) × (N ≤ 6144) × SmallSide a × (a.faces ≤ length near.old) × (a.faces ≤ length named.old) }
+    ensures { Written (flat (read_center (material_or drawn.now parts.now q ca) piece c) (faces_from faces.now 0 fnames.now a.face a.faces)) 0 result near.old near.new named.old named.new }
+{
+    let mut points = [[0.0; 2]; N];
+    deep_center_by(
+        &mut points,
+        near,
+        named,
+        piece,
+        c,
+        faces,
+        fnames,
+        a,
+        drawn,
+        parts,
+        q,
+        ca,
     )
 }
 
@@ -558,26 +578,13 @@ fn deep_center(
 {
     let n = all_drawn(parts);
     if n <= 512 {
-        let mut few = [[0.0; 2]; 512];
-        return deep_center_by(
-            &mut few, near, named, piece, c, faces, fnames, a, drawn, parts, q, ca,
+        return deep_center_with::<512>(
+            near, named, piece, c, faces, fnames, a, drawn, parts, q, ca,
         );
     }
     if n <= 6144 {
-        let mut points = [[0.0; 2]; 6144];
-        return deep_center_by(
-            &mut points,
-            near,
-            named,
-            piece,
-            c,
-            faces,
-            fnames,
-            a,
-            drawn,
-            parts,
-            q,
-            ca,
+        return deep_center_with::<6144>(
+            near, named, piece, c, faces, fnames, a, drawn, parts, q, ca,
         );
     }
     plain_center(near, named, piece, c, faces, fnames, a)
@@ -665,6 +672,7 @@ fn pair_of_center(
 }
 
 // The row bound of a pair.
+#[tactic(auto, using(crate::proofs::Pairs::features_bound, crate::proofs::Pairs::center_bound))]
 pub fn pair_bound_in(sides: &[SideRow], pair: usize) -> usize
     ensures { (result ≡ bound_in sides.now pair) × (result ≤ 1456) }
 {
@@ -740,7 +748,7 @@ pub fn pair_candidates_in(
     ensures { Written (cond (room_for_pair sides.now pair (length near.old) (length named.old)) (candidates_from faces.now fnames.now discs.now dnames.now sides.now centers.now choices.now drawn.now parts.now q pair) []) 0 result near.old near.new named.old named.new }
 {
     let bound = pair_bound_in(sides, pair);
-    if (bound <= near.len()) & (bound <= named.len()) {
+    if bound <= near.len() && bound <= named.len() {
         return candidates_of(
             near, named, faces, fnames, discs, dnames, sides, centers, choices, drawn, parts, q,
             pair,

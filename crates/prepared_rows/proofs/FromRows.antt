@@ -14,11 +14,9 @@ use Rattle.laws.specs.Loops.{any_in}
 use Rattle.laws.proofs.Choice.{and_yes, cond_yes}
 use Rattle.laws.proofs.Lists.{list_length}
 use Rattle.geometry.specs.Geometry.{vector_of}
-use Rattle.bodies.specs.Check.{and_then, refused_if, is_accepted, bodies_stand}
+use Rattle.bodies.specs.Check.{Checked, and_then, refused_if, bodies_stand}
 use Rattle.mechanism.specs.Rows.{place_row, value_row}
 use Rattle.bodies.specs.declared.Bodies.{Bodies}
-use Rattle.bodies.specs.declared.Checked.{Checked}
-use Rattle.bodies.specs.declared.Checked.TheVariants.{Accepted, Refused}
 use Rattle.bodies.specs.declared.Problem.TheVariants.{LimitPassed, PoseNotMatching, NoSuchThing, TooFewRows}
 use Rattle.bodies.specs.declared.pose.Pose.{Pose}
 use Rattle.sides.specs.declared.contacts.PairFeatures.{PairFeatures}
@@ -41,6 +39,7 @@ use Rattle.shown_rows.proofs.AllPairs.{flat-long}
 use Rattle.shown_rows.proofs.Fits.{features_few, center_few}
 use Rattle.shown_rows.proofs.OfPair.{shown-few}
 use Rattle.shown_rows.proofs.Total.{flat-few}
+use Rattle.std.proofs.Common.{Ok, Err, is_ok}
 
 -- room for fewer rows
 pub less-room : {coords at n k : ℕ} {places : List (List ℕ)} {values : List (List Float)} {grad slip : List Float} → k ≤ n → Room coords at n places values grad slip → Room coords at k places values grad slip
@@ -198,15 +197,15 @@ pub room-tested : (b : Bodies) (sides : List (List ℕ)) (n w x y z : ℕ) {boun
 room-tested b sides n w x y z e f = ap (λ (k : ℕ). (leb k w && leb k x) && (leb (k * b.coords) y && leb (k * b.coords) z)) (sym e) ∙ f
 
 -- ---- of a call that is not refused
-stages-passed : (many : Bool) (stand : Checked) (fits off room : Bool) → stages many stand fits off room ≡ Accepted → (many ≡ false) × (room ≡ true)
-stages-passed true stand fits off room e = absurd (false≢true (ap is_accepted e))
-stages-passed false (Refused p) fits off room e = absurd (false≢true (ap is_accepted e))
-stages-passed false Accepted false off room e = absurd (false≢true (ap is_accepted e))
-stages-passed false Accepted true true room e = absurd (false≢true (ap is_accepted e))
-stages-passed false Accepted true false false e = absurd (false≢true (ap is_accepted e))
-stages-passed false Accepted true false true e = (refl, refl)
+stages-passed : (many : Bool) (stand : Checked) (fits off room : Bool) → stages many stand fits off room ≡ Ok tt → (many ≡ false) × (room ≡ true)
+stages-passed true stand fits off room e = absurd (false≢true (ap is_ok e))
+stages-passed false (Err p) fits off room e = absurd (false≢true (ap is_ok e))
+stages-passed false (Ok tt) false off room e = absurd (false≢true (ap is_ok e))
+stages-passed false (Ok tt) true true room e = absurd (false≢true (ap is_ok e))
+stages-passed false (Ok tt) true false false e = absurd (false≢true (ap is_ok e))
+stages-passed false (Ok tt) true false true e = (refl, refl)
 
-pub accepted-room : (b : Bodies) (n : ℕ) (sides : List (List ℕ)) (q : Pose) (places : List (List ℕ)) (values : List (List Float)) (grad slip : List Float) → prepared_checked b n sides q (length places) (length values) (length grad) (length slip) ≡ Accepted
+pub accepted-room : (b : Bodies) (n : ℕ) (sides : List (List ℕ)) (q : Pose) (places : List (List ℕ)) (values : List (List Float)) (grad slip : List Float) → prepared_checked b n sides q (length places) (length values) (length grad) (length slip) ≡ Ok tt
     → (n ≤ 16) × (bounds_in sides n ≤ length places) × (bounds_in sides n ≤ length values)
 unfolding prepared_checked
 accepted-room b n sides q places values grad slip e =

@@ -2,10 +2,9 @@
 use Rattle.std.specs.Prelude.{ℕ, ◌+◌, ◌*◌, Bool, ◌&&◌, ◌||◌, not, List, map, leb, ltb, eqb, Float}
 use Rattle.laws.specs.Lists.{list_in, flat}
 use Rattle.laws.specs.Loops.{any_in}
-use Rattle.bodies.specs.Check.{and_then, refused_if, bodies_stand}
+use Rattle.bodies.specs.Check.{Checked, and_then, refused_if, bodies_stand}
 use Rattle.mechanism.specs.Description.{sum_in}
 use Rattle.bodies.specs.declared.Bodies.{Bodies}
-use Rattle.bodies.specs.declared.Checked.{Checked}
 use Rattle.bodies.specs.declared.Problem.TheVariants.{LimitPassed, PoseNotMatching, NoSuchThing, TooFewRows}
 use Rattle.bodies.specs.declared.pose.Pose.{Pose}
 use Rattle.mechanism.specs.declared.rows.Row.{Row}

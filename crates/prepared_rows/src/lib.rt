@@ -12,14 +12,12 @@ ghost use Rattle.prepared_rows.specs.Prepared.{rows_from, grads_from, slips_from
 
 use bodies::check::bodies_stand;
 use bodies::pose::Pose;
-use bodies::{Bodies, Checked, Problem};
+use bodies::{Bodies, Problem};
 use mechanism::rows::{Place, Value};
 use pair_rows::{Source, put_shown};
 use prepared_candidates::{pair_bound_in, pair_candidates_in};
-use shown_rows::{RowsAnswer, refused};
 use strips::{
-    ChoiceRow, DiscRow, FaceRow, PartRow, PieceRow, PointRow, SideFacts, SideRow, row_a, row_b,
-    side_at,
+    ChoiceRow, DiscRow, FaceRow, PartRow, PieceRow, PointRow, SideRow, row_a, row_b, side_at,
 };
 
 // ---- the rows of a pair
@@ -65,7 +63,39 @@ fn put_pair_by(
     )
 }
 
-// The same, with arrays for the candidates that are large enough.
+// The same with room for N candidates of its own.
+fn put_pair_with<const N: usize>(
+    places: &mut [Place],
+    values: &mut [Value],
+    grad: &mut [f64],
+    slip: &mut [f64],
+    at: usize,
+    bodies: Bodies,
+    faces: &[FaceRow],
+    fnames: &[PieceRow],
+    discs: &[DiscRow],
+    dnames: &[PieceRow],
+    sides: &[SideRow],
+    centers: &[PointRow],
+    choices: &[ChoiceRow],
+    drawn: &[PointRow],
+    parts: &[PartRow],
+    q: Pose,
+    margin: f64,
+    i: usize,
+) -> usize
+    requires { (bound_in sides.now i ≤ N) × (N ≤ 1456) × (bodies.coords ≤ 16) × (at ≤ 23296) × Room bodies.coords at (bound_in sides.now i) places.old values.old grad.old slip.old }
+    ensures { Put bodies.coords (map place_row (rows_from faces.now fnames.now discs.now dnames.now sides.now centers.now choices.now drawn.now parts.now q margin i)) (map value_row (rows_from faces.now fnames.now discs.now dnames.now sides.now centers.now choices.now drawn.now parts.now q margin i)) (grads_from faces.now fnames.now discs.now dnames.now sides.now centers.now choices.now drawn.now parts.now bodies q margin i) (slips_from faces.now fnames.now discs.now dnames.now sides.now centers.now choices.now drawn.now parts.now bodies q margin i) at result places.old places.new values.old values.new grad.old grad.new slip.old slip.new }
+{
+    let mut near = [[0.0; 5]; N];
+    let mut named = [[0; 7]; N];
+    put_pair_by(
+        &mut near, &mut named, places, values, grad, slip, at, bodies, faces, fnames, discs,
+        dnames, sides, centers, choices, drawn, parts, q, margin, i,
+    )
+}
+
+// With as much room as the pair's bound asks for. Each room is a call of its own: a function pays for all its arrays when it is entered.
 fn put_pair(
     places: &mut [Place],
     values: &mut [Value],
@@ -91,26 +121,20 @@ fn put_pair(
 {
     let n = pair_bound_in(sides, i);
     if n <= 32 {
-        let mut near = [[0.0; 5]; 32];
-        let mut named = [[0usize; 7]; 32];
-        return put_pair_by(
-            &mut near, &mut named, places, values, grad, slip, at, bodies, faces, fnames, discs,
-            dnames, sides, centers, choices, drawn, parts, q, margin, i,
+        return put_pair_with::<32>(
+            places, values, grad, slip, at, bodies, faces, fnames, discs, dnames, sides, centers,
+            choices, drawn, parts, q, margin, i,
         );
     }
     if n <= 256 {
-        let mut near = [[0.0; 5]; 256];
-        let mut named = [[0usize; 7]; 256];
-        return put_pair_by(
-            &mut near, &mut named, places, values, grad, slip, at, bodies, faces, fnames, discs,
-            dnames, sides, centers, choices, drawn, parts, q, margin, i,
+        return put_pair_with::<256>(
+            places, values, grad, slip, at, bodies, faces, fnames, discs, dnames, sides, centers,
+            choices, drawn, parts, q, margin, i,
         );
     }
-    let mut near = [[0.0; 5]; 1456];
-    let mut named = [[0usize; 7]; 1456];
-    put_pair_by(
-        &mut near, &mut named, places, values, grad, slip, at, bodies, faces, fnames, discs,
-        dnames, sides, centers, choices, drawn, parts, q, margin, i,
+    put_pair_with::<1456>(
+        places, values, grad, slip, at, bodies, faces, fnames, discs, dnames, sides, centers,
+        choices, drawn, parts, q, margin, i,
     )
 }
 
@@ -139,14 +163,12 @@ fn put_pairs(
     requires { (bodies.coords ≤ 16) × (n ≤ 16) × (bounds_in sides.now n ≤ 23296) × Room bodies.coords 0 (bounds_in sides.now n) places.old values.old grad.old slip.old }
     ensures { Put bodies.coords (map place_row (all_rows faces.now fnames.now discs.now dnames.now sides.now centers.now choices.now drawn.now parts.now q margin n)) (map value_row (all_rows faces.now fnames.now discs.now dnames.now sides.now centers.now choices.now drawn.now parts.now q margin n)) (all_grads faces.now fnames.now discs.now dnames.now sides.now centers.now choices.now drawn.now parts.now bodies q margin n) (all_slips faces.now fnames.now discs.now dnames.now sides.now centers.now choices.now drawn.now parts.now bodies q margin n) 0 result places.old places.new values.old values.new grad.old grad.new slip.old slip.new }
 {
-    let mut at: usize = 0;
-    let mut pair: usize = 0;
-    while pair < n {
+    let mut at = 0;
+    for pair in 0..n {
         at = put_pair(
             places, values, grad, slip, at, bodies, faces, fnames, discs, dnames, sides, centers,
             choices, drawn, parts, q, margin, pair,
         );
-        pair += 1;
     }
     at
 }
@@ -157,11 +179,9 @@ fn put_pairs(
 fn falls_off(bodies: usize, sides: &[SideRow], n: usize) -> bool
     ensures { result ≡ any_in (falls_off bodies sides.now) n 0 }
 {
-    let mut i: usize = 0;
-    while i < n {
+    for i in 0..n {
         let a = side_at(sides, row_a(i));
         let b = side_at(sides, row_b(i));
-        i += 1;
         if (bodies < a.body) | (bodies < b.body) {
             return true;
         }
@@ -174,11 +194,9 @@ fn bounds_in(sides: &[SideRow], n: usize) -> usize
     requires { n ≤ 16 }
     ensures { (result ≡ bounds_in sides.now n) × (result ≤ 23296) }
 {
-    let mut sum: usize = 0;
-    let mut i: usize = 0;
-    while i < n {
+    let mut sum = 0;
+    for i in 0..n {
         sum += pair_bound_in(sides, i);
-        i += 1;
     }
     sum
 }
@@ -202,7 +220,7 @@ pub fn rows_in(
     values: &mut [Value],
     grad: &mut [f64],
     slip: &mut [f64],
-) -> RowsAnswer
+) -> Result<usize, Problem>
     ensures value { result ≡ answer_if (prepared_checked bodies n sides.now q (length places.old) (length values.old) (length grad.old) (length slip.old)) (length (all_rows faces.now fnames.now discs.now dnames.now sides.now centers.now choices.now drawn.now parts.now q margin n)) }
     ensures places_after { places.new ≡ if_accepted (prepared_checked bodies n sides.now q (length places.old) (length values.old) (length grad.old) (length slip.old)) (sets places.old 0 (map place_row (all_rows faces.now fnames.now discs.now dnames.now sides.now centers.now choices.now drawn.now parts.now q margin n))) places.old }
     ensures values_after { values.new ≡ if_accepted (prepared_checked bodies n sides.now q (length places.old) (length values.old) (length grad.old) (length slip.old)) (sets values.old 0 (map value_row (all_rows faces.now fnames.now discs.now dnames.now sides.now centers.now choices.now drawn.now parts.now q margin n))) values.old }
@@ -210,33 +228,24 @@ pub fn rows_in(
     ensures slip_after { slip.new ≡ if_accepted (prepared_checked bodies n sides.now q (length places.old) (length values.old) (length grad.old) (length slip.old)) (sets slip.old 0 (all_slips faces.now fnames.now discs.now dnames.now sides.now centers.now choices.now drawn.now parts.now bodies q margin n)) slip.old }
 {
     if 16 < n {
-        return refused(Problem::LimitPassed);
+        return Err(Problem::LimitPassed);
     }
-    let c = bodies_stand(bodies);
-    match c {
-        Checked::Refused(p) => refused(p),
-        Checked::Accepted => {
-            if q.count != bodies.count + 1 {
-                return refused(Problem::PoseNotMatching);
-            }
-            if falls_off(bodies.count, sides, n) {
-                return refused(Problem::NoSuchThing);
-            }
-            let bound = bounds_in(sides, n);
-            let columns = bound * bodies.coords;
-            if ((bound <= places.len()) & (bound <= values.len()))
-                & ((columns <= grad.len()) & (columns <= slip.len()))
-            {
-                let count = put_pairs(
-                    places, values, grad, slip, bodies, faces, fnames, discs, dnames, sides,
-                    centers, choices, drawn, parts, n, q, margin,
-                );
-                return RowsAnswer {
-                    checked: Checked::Accepted,
-                    count,
-                };
-            }
-            refused(Problem::TooFewRows)
-        }
+    bodies_stand(bodies)?;
+    if q.count != bodies.count + 1 {
+        return Err(Problem::PoseNotMatching);
     }
+    if falls_off(bodies.count, sides, n) {
+        return Err(Problem::NoSuchThing);
+    }
+    let bound = bounds_in(sides, n);
+    let columns = bound * bodies.coords;
+    if ((bound <= places.len()) & (bound <= values.len()))
+        & ((columns <= grad.len()) & (columns <= slip.len()))
+    {
+        return Ok(put_pairs(
+            places, values, grad, slip, bodies, faces, fnames, discs, dnames, sides, centers,
+            choices, drawn, parts, n, q, margin,
+        ));
+    }
+    Err(Problem::TooFewRows)
 }

@@ -4,21 +4,18 @@ use native.Mathlib.Omega.{arith}
 use native.Mathlib.Numerals.{add-one}
 use native.Mathlib.Nat.{add-zero, add_assoc, mul-le-mul, add-mul}
 use mathlib.Core.Path.{◌≡◌, refl, sym, ap, subst, ◌∙◌}
-use mathlib.Core.Bool.{Bool, true, false, ◌&&◌, cond}
+use mathlib.Core.Bool.{◌&&◌, cond}
 use mathlib.Core.List.{List, [], ◌∷◌, ◌++◌, map, map-append, append-nil}
 use lib.Dec.{ltb}
 use lib.Ieee.{Float}
-use lib.ListN.{length, set, take, get_or, length-append, length-map, length-take}
-use lib.Seq.{sets, length-sets, take-suc}
+use lib.ListN.{length, take, get_or, length-append, length-map, length-take}
+use lib.Seq.{sets, length-sets, take-suc, take_all}
 use borrow.Author.Tests.{lt-ltb}
-use Rattle.mechanism.specs.Piece.{letter_of, part_of, seg_of}
 use Rattle.laws.specs.Lists.{flat}
-use Rattle.laws.proofs.Choice.{and_yes, cond_yes, cond_no}
+use Rattle.laws.proofs.Choice.{and_yes, cond_yes}
 use Rattle.laws.proofs.Lists.{flat_append, flat-short}
 use Rattle.laws.proofs.Writing.{sets-append}
 use Rattle.geometry.specs.Signed.{disc_on_face, disc_on_disc, center_on_face, on_a, on_b}
-use Rattle.geometry.specs.declared.signed.MaybeProximity.{MaybeProximity}
-use Rattle.geometry.specs.declared.signed.MaybeProximity.TheVariants.{SomeProximity, NoProximity}
 use Rattle.geometry.specs.declared.Point.{Point}
 use Rattle.geometry.specs.declared.signed.Proximity.{Proximity}
 use Rattle.mechanism.specs.declared.features.Piece.{Piece}
@@ -26,7 +23,8 @@ use Rattle.material.specs.Material.{Material}
 use Rattle.sides.specs.declared.PlacedDisc.{PlacedDisc}
 use Rattle.sides.specs.declared.PlacedFace.{PlacedFace}
 use Rattle.proximities.specs.declared.Candidate.{Candidate}
-use Rattle.proximities.specs.Proximities.{reading, reading_at, kept_if, exchanged, real_of, center_real, read_ab, read_ba, read_discs, read_center, each, near_row, named_row, Written}
+use Rattle.proximities.specs.Proximities.{reading, kept_if, exchanged, real_of, center_real, read_ab, read_ba, read_discs, read_center, each, near_row, named_row, Written}
+use Rattle.std.proofs.Common.{Option, Some, None}
 
 pub wrote_nothing : (at : ℕ) (near : List (List Float)) (named : List (List ℕ)) → Written [] at at near near named named
 wrote_nothing at near named = record { end = sym (add-zero at); nears = refl; names = refl }
@@ -56,32 +54,14 @@ module _ {x : List Candidate} {at i : ℕ} {near₀ near : List (List Float)} {n
   pub wrote_named : Written x at i near₀ near named₀ named → length named ≡ length named₀
   wrote_named w = ap length w.names ∙ length-sets named₀ at (map named_row x)
 
--- ---- a reading is one candidate or none, and it is written where the arrays have room for it
-pub put_one : (a b : Piece) (who : ℕ) (x : Proximity) {found : MaybeProximity} (at : ℕ) (near : List (List Float)) (named : List (List ℕ)) {l p s l' p' s' : ℕ} → (ltb at (length near) && ltb at (length named)) ≡ true → found ≡ SomeProximity x
-    → l ≡ letter_of a → p ≡ part_of a → s ≡ seg_of a → l' ≡ letter_of b → p' ≡ part_of b → s' ≡ seg_of b
-    → Written (reading_at (length near) (length named) at a b who found) at (at + 1) near (set near at (x.gap ∷ x.normal.x ∷ x.normal.y ∷ x.point.x ∷ x.point.y ∷ [])) named (set named at (l ∷ p ∷ s ∷ l' ∷ p' ∷ s' ∷ who ∷ []))
-put_one a b who x {found} at near named h e el ep es el' ep' es' =
-    wrote_same (sym (cond_yes (reading a b who found) [] h ∙ ap (reading a b who) e)) (record { end = refl; nears = refl; names = rw (el, ep, es, el', ep', es') })
-
-none-either : (b : Bool) → ◌≡◌ {A = List Candidate} (cond b [] []) []
-none-either true = refl
-none-either false = refl
-
-pub put-none : (a b : Piece) (who : ℕ) {found : MaybeProximity} (at : ℕ) (near : List (List Float)) (named : List (List ℕ)) → found ≡ NoProximity → Written (reading_at (length near) (length named) at a b who found) at at near near named named
-put-none a b who at near named e =
-    wrote_same (sym (ap (λ (m : MaybeProximity). reading_at (length near) (length named) at a b who m) e ∙ none-either (ltb at (length near) && ltb at (length named)))) (wrote_nothing at near named)
-
-pub put_full : (a b : Piece) (who : ℕ) (found : MaybeProximity) (at : ℕ) (near : List (List Float)) (named : List (List ℕ)) → (ltb at (length near) && ltb at (length named)) ≡ false → Written (reading_at (length near) (length named) at a b who found) at at near near named named
-put_full a b who found at near named h = wrote_same (sym (cond_no (reading a b who found) [] h)) (wrote_nothing at near named)
-
 -- what is written where the arrays have room, in arrays that have it
 pub wrote_read : {l : List Candidate} {at r : ℕ} {near₀ near : List (List Float)} {named₀ named : List (List ℕ)} → (at < length near₀) × (at < length named₀)
     → Written (cond (ltb at (length near₀) && ltb at (length named₀)) l []) at r near₀ near named₀ named → Written l at r near₀ near named₀ named
 wrote_read {l} {at} {near₀ = near₀} {named₀ = named₀} h w = wrote_same (cond_yes l [] (and_yes (ltb at (length named₀)) (lt-ltb at (length near₀) h.0) ∙ lt-ltb at (length named₀) h.1)) w
 
-reading-short : (a b : Piece) (who : ℕ) (found : MaybeProximity) → length (reading a b who found) ≤ 1
-reading-short a b who NoProximity = omega arith
-reading-short a b who (SomeProximity x) = omega arith
+reading-short : (a b : Piece) (who : ℕ) (found : Option Proximity) → length (reading a b who found) ≤ 1
+reading-short a b who None = omega arith
+reading-short a b who (Some x) = omega arith
 
 pub ab_short : (m : Material) (d : PlacedDisc) (f : PlacedFace) → length (read_ab m d f) ≤ 1
 unfolding read_ab
@@ -100,7 +80,7 @@ unfolding read_center
 center_short m piece c f = reading-short f.piece piece 2 (kept_if (λ x. center_real m c x.gap) (center_on_face c f.face))
 
 -- a reading that is written, by its name
-module _ {found : MaybeProximity} {at r : ℕ} {near₀ near : List (List Float)} {named₀ named : List (List ℕ)} where
+module _ {found : Option Proximity} {at r : ℕ} {near₀ near : List (List Float)} {named₀ named : List (List ℕ)} where
   pub wrote_ab : (m : Material) (d : PlacedDisc) (f : PlacedFace) → found ≡ kept_if (λ x. real_of m x.gap (on_a x)) (disc_on_face d.disc f.face) → Written (reading d.piece f.piece 1 found) at r near₀ near named₀ named → Written (read_ab m d f) at r near₀ near named₀ named
   unfolding read_ab
   wrote_ab m d f e w = wrote_same (ap (reading d.piece f.piece 1) e) w
@@ -139,14 +119,13 @@ one_more i n b h =
     let e = add-mul i 1 b in
     omega arith
 
--- ---- A loop over the first n elements of an array: those of the first i are written from `at` up to `to`.
-pub record Wrote {A : Type 0} (f : A → List Candidate) (l : List A) (n at to i : ℕ) (near₀ near : List (List Float)) (named₀ named : List (List ℕ)) : Type 0 where
-  pub far : i ≤ n
+-- ---- a loop over the elements of l: those of the first i are written from `at` up to `to`
+pub record Wrote {A : Type 0} (f : A → List Candidate) (l : List A) (at to i : ℕ) (near₀ near : List (List Float)) (named₀ named : List (List ℕ)) : Type 0 where
   pub done : Written (flat f (take i l)) at to near₀ near named₀ named
 
-pub wrote_start : {A : Type 0} (f : A → List Candidate) (l : List A) (n at : ℕ) (near : List (List Float)) (named : List (List ℕ)) → Wrote f l n at at 0 near near named named
+pub wrote_start : {A : Type 0} (f : A → List Candidate) (l : List A) (at : ℕ) (near : List (List Float)) (named : List (List ℕ)) → Wrote f l at at 0 near near named named
 unfolding flat
-wrote_start f l n at near named = record { far = omega arith; done = wrote_nothing at near named }
+wrote_start f l at near named = record { done = wrote_nothing at near named }
 
 flat-next : {A : Type 0} (f : A → List Candidate) (l : List A) (i : ℕ) (d : A) → i < length l → flat f (take (i + 1) l) ≡ flat f (take i l) ++ f (get_or l i d)
 unfolding flat
@@ -154,33 +133,28 @@ flat-next {A} f l i d h =
     ap (λ (k : ℕ). flat f (take k l)) (add-one i) ∙ ap (flat f) (take-suc l i d h) ∙ flat_append f (take i l) (get_or l i d ∷ [])
     ∙ ap (λ (m : List Candidate). flat f (take i l) ++ m) (append-nil (f (get_or l i d)))
 
-module _ {A : Type 0} {f : A → List Candidate} {l : List A} {n at to i : ℕ} {near₀ near : List (List Float)} {named₀ named : List (List ℕ)} (w : Wrote f l n at to i near₀ near named₀ named) where
-  pub wrote_more : {to' : ℕ} {near' : List (List Float)} {named' : List (List ℕ)} (d : A) → n ≤ length l → i < n → Written (f (get_or l i d)) to to' near near' named named' → Wrote f l n at to' (i + 1) near₀ near' named₀ named'
-  wrote_more d h k v = record { far = omega arith; done = wrote_same (sym (flat-next f l i d (omega arith))) (wrote_both w.done v) }
+module _ {A : Type 0} {f : A → List Candidate} {l : List A} {at to i : ℕ} {near₀ near : List (List Float)} {named₀ named : List (List ℕ)} (w : Wrote f l at to i near₀ near named₀ named) where
+  pub wrote_more : {to' : ℕ} {near' : List (List Float)} {named' : List (List ℕ)} (d : A) → i < length l → Written (f (get_or l i d)) to to' near near' named named' → Wrote f l at to' (i + 1) near₀ near' named₀ named'
+  wrote_more d h v = record { done = wrote_same (sym (flat-next f l i d h)) (wrote_both w.done v) }
 
-  pub wrote_end : n ≤ i → Written (flat f (take n l)) at to near₀ near named₀ named
-  wrote_end h =
-      let g = w.far in
-      let e : i ≡ n = omega arith in
-      wrote_same (ap (λ (k : ℕ). flat f (take k l)) e) w.done
+  pub wrote_end : length l ≤ i → Written (flat f l) at to near₀ near named₀ named
+  wrote_end h = wrote_same (ap (flat f) (take_all i l h)) w.done
 
-  -- the next place to write, where an element gives at most b
-  wrote_upto : (b : ℕ) → ((x : A) → length (f x) ≤ b) → to ≤ at + i * b
-  wrote_upto b h = let e = w.done.end in let s = flat-first-few f b h l i in omega (arith, e, s)
-
-  -- room for one more turn of b
-  pub wrote_room : (b : ℕ) → ((x : A) → length (f x) ≤ b) → i < n → at + n * b ≤ length near₀ → at + n * b ≤ length named₀ → (to + b ≤ length near) × (to + b ≤ length named)
-  wrote_room b h k p q =
-      let u = wrote_upto b h in
+  -- room for one more turn, where an element gives at most b
+  pub wrote_room : (b n : ℕ) → ((x : A) → length (f x) ≤ b) → i < n → at + n * b ≤ length near₀ → at + n * b ≤ length named₀ → (to + b ≤ length near) × (to + b ≤ length named)
+  wrote_room b n h k p q =
+      let e = w.done.end in
+      let s = flat-first-few f b h l i in
       let o = one_more i n b k in
       let x = wrote_near w.done in
       let y = wrote_named w.done in
-      (omega (arith, u, o, p, x), omega (arith, u, o, q, y))
+      (omega (arith, e, s, o, p, x), omega (arith, e, s, o, q, y))
 
   -- and where an element gives at most one
-  pub wrote_one : ((x : A) → length (f x) ≤ 1) → i < n → at + n ≤ length near₀ → at + n ≤ length named₀ → (to < length near) × (to < length named)
-  wrote_one h k p q =
-      let u = wrote_upto 1 h in
+  pub wrote_one : (n : ℕ) → ((x : A) → length (f x) ≤ 1) → i < n → at + n ≤ length near₀ → at + n ≤ length named₀ → (to < length near) × (to < length named)
+  wrote_one n h k p q =
+      let e = w.done.end in
+      let s = flat-first-few f 1 h l i in
       let x = wrote_near w.done in
       let y = wrote_named w.done in
-      (omega (arith, u, k, p, x), omega (arith, u, k, q, y))
+      (omega (arith, e, s, k, p, x), omega (arith, e, s, k, q, y))

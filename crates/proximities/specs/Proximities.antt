@@ -1,19 +1,17 @@
 -- One reading of two features at a pose (contact/rows.rs: `turned`, `world_face`, `world_disc`, `read_pair`, `real`), and candidates in lent arrays.
 -- Definitions only.
-use Rattle.std.specs.Prelude.{ℕ, ◌+◌, ◌≡◌, Bool, false, not, ◌&&◌, ◌||◌, cond, List, [], ◌∷◌, map, ltb, length, Float}
+use Rattle.std.specs.Prelude.{ℕ, ◌+◌, ◌≡◌, Bool, false, not, ◌&&◌, ◌||◌, cond, List, [], ◌∷◌, map, ltb, length, Float, Option, Some, None, unwrap_or}
 use Rattle.std.proofs.lemmas.List.Edits.{sets}
 use Rattle.std.specs.Float.Ieee.{le, neg}
 use Rattle.laws.specs.Lists.{flat}
 use Rattle.ieee.specs.Consts.{row_margin}
 use Rattle.ieee.specs.Operators.{◌⊖◌}
-use Rattle.geometry.specs.Geometry.{dir_of, dir_or, vector_of}
+use Rattle.geometry.specs.Geometry.{dir_of, vector_of}
 use Rattle.geometry.specs.Signed.{disc_on_face, disc_on_disc, center_on_face, reversed_of, on_a, on_b}
 use Rattle.geometry.specs.declared.Dir.{Dir}
 use Rattle.geometry.specs.declared.Point.{Point}
 use Rattle.geometry.specs.declared.signed.Disc.{Disc}
 use Rattle.geometry.specs.declared.signed.Face.{Face}
-use Rattle.geometry.specs.declared.signed.MaybeProximity.{MaybeProximity}
-use Rattle.geometry.specs.declared.signed.MaybeProximity.TheVariants.{SomeProximity, NoProximity}
 use Rattle.geometry.specs.declared.signed.Proximity.{Proximity}
 use Rattle.mechanism.specs.Piece.{letter_of, part_of, seg_of}
 use Rattle.bodies.specs.Pose.{is_world, rotate_of, world_of}
@@ -27,7 +25,7 @@ use Rattle.proximities.specs.declared.Candidate.{Candidate}
 -- ---- features in the world
 -- a direction of a body's frame: as it is where the body stands in the world's own frame, otherwise turned and normalized anew
 unfoldable pub turned_of : Placement → Dir → Dir
-turned_of place d = let v = rotate_of place (vector_of d) in cond (is_world place) d (dir_or (dir_of v.x v.y) d)
+turned_of place d = let v = rotate_of place (vector_of d) in cond (is_world place) d (unwrap_or (dir_of v.x v.y) d)
 
 abbrev pub world_face : Placement → Face → Face
 world_face place f = record { a = world_of place f.a; b = world_of place f.b; normal = turned_of place f.normal }
@@ -36,21 +34,21 @@ abbrev pub world_disc : Placement → Disc → Disc
 world_disc place d = record { center = world_of place d.center; radius = d.radius; from = turned_of place d.from; to = turned_of place d.to }
 
 -- ---- one reading: `who` names the deciding piece, 1 side A's, 2 side B's, 0 none
-abbrev pub reading : Piece → Piece → ℕ → MaybeProximity → List Candidate
-reading a b who NoProximity = []
-reading a b who (SomeProximity x) = record { a = a; b = b; who = who; near = x } ∷ []
+abbrev pub reading : Piece → Piece → ℕ → Option Proximity → List Candidate
+reading a b who None = []
+reading a b who (Some x) = record { a = a; b = b; who = who; near = x } ∷ []
 
 -- the candidate of a reading, where number `at` is in both arrays
-abbrev pub reading_at : (near named at : ℕ) → Piece → Piece → ℕ → MaybeProximity → List Candidate
+abbrev pub reading_at : (near named at : ℕ) → Piece → Piece → ℕ → Option Proximity → List Candidate
 reading_at near named at a b who found = cond (ltb at near && ltb at named) (reading a b who found) []
 
-abbrev pub kept_if : (Proximity → Bool) → MaybeProximity → MaybeProximity
-kept_if p NoProximity = NoProximity
-kept_if p (SomeProximity x) = cond (p x) (SomeProximity x) NoProximity
+abbrev pub kept_if : (Proximity → Bool) → Option Proximity → Option Proximity
+kept_if p None = None
+kept_if p (Some x) = cond (p x) (Some x) None
 
-abbrev pub exchanged : MaybeProximity → MaybeProximity
-exchanged NoProximity = NoProximity
-exchanged (SomeProximity x) = SomeProximity (reversed_of x)
+abbrev pub exchanged : Option Proximity → Option Proximity
+exchanged None = None
+exchanged (Some x) = Some (reversed_of x)
 
 -- ---- the material check: deeper than the row margin, or not a number
 abbrev pub is_deep : Float → Bool
@@ -82,9 +80,9 @@ abbrev pub each : {A B : Type 0} → (A → B → List Candidate) → List A →
 each f l r = flat (λ x. flat (f x) r) l
 
 -- ---- whether a material is asked for
-abbrev pub found_deep : MaybeProximity → Bool
-found_deep NoProximity = false
-found_deep (SomeProximity x) = is_deep x.gap
+abbrev pub found_deep : Option Proximity → Bool
+found_deep None = false
+found_deep (Some x) = is_deep x.gap
 
 -- ---- in lent arrays: a row of five numbers, the gap, the normal and the point; and a row of seven whole numbers, both pieces and who decides
 abbrev pub near_row : Candidate → List Float

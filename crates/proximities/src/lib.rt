@@ -1,14 +1,14 @@
 // One reading of two features at a pose, and a candidate into lent arrays (contact/rows.rs: `turned`, `world_face`, `world_disc`, `real`).
 #![tactic(auto)]
 
-ghost use Rattle.std.specs.Prelude.{◌≡◌, true, false, ◌+◌, ◌<◌, length};
+ghost use Rattle.std.specs.Prelude.{◌≡◌, ◌+◌, ◌<◌, length};
 ghost use Rattle.geometry.specs.Signed.{disc_on_face, center_on_face, on_a, on_b};
 ghost use Rattle.material.specs.Material.{material_of};
 ghost use Rattle.proximities.specs.Proximities.{turned_of, world_face, world_disc, is_deep, real_of, center_real, kept_if, exchanged, reading_at, found_deep, Written};
 
 use bodies::pose::Placement;
 use drawing::Polygons;
-use geometry::signed::{Disc, Face, MaybeProximity, Proximity};
+use geometry::signed::{Disc, Face, Proximity};
 use geometry::{Dir, Point};
 use material::{Spot, depth, holds};
 use mechanism::features::{Piece, letter, part, seg};
@@ -25,6 +25,7 @@ pub struct Candidate {
 
 // ---- features in the world
 
+#[tactic(auto, unfolding(crate::specs::Proximities::turned_of))]
 fn turned(place: Placement, d: Dir) -> Dir
     ensures { result ≡ turned_of place d }
 {
@@ -32,7 +33,7 @@ fn turned(place: Placement, d: Dir) -> Dir
         return d;
     }
     let v = place.rotate(d.vector());
-    geometry::dir_or(Dir::new(v.x, v.y), d)
+    Dir::new(v.x, v.y).unwrap_or(d)
 }
 
 pub fn world_face(place: Placement, f: Face) -> Face
@@ -66,23 +67,17 @@ pub fn put_candidate(
     a: Piece,
     b: Piece,
     who: usize,
-    found: MaybeProximity,
+    found: Option<Proximity>,
 ) -> usize
     ensures { Written (reading_at (length near.old) (length named.old) at a b who found) at result near.old near.new named.old named.new }
 {
     match found {
-        MaybeProximity::SomeProximity(x) => {
-            if (at < near.len()) & (at < named.len()) {
-                let n = x.normal;
-                let p = x.point;
-                near[at] = [x.gap, n.x, n.y, p.x, p.y];
-                named[at] = [letter(a), part(a), seg(a), letter(b), part(b), seg(b), who];
-                at + 1
-            } else {
-                at
-            }
+        Some(x) if at < near.len() && at < named.len() => {
+            near[at] = [x.gap, x.normal.x, x.normal.y, x.point.x, x.point.y];
+            named[at] = [letter(a), part(a), seg(a), letter(b), part(b), seg(b), who];
+            at + 1
         }
-        MaybeProximity::NoProximity => at,
+        _ => at,
     }
 }
 
@@ -98,45 +93,34 @@ fn is_deep(gap: f64) -> bool
 fn real(points: &[Spot], starts: &[usize], n: Polygons, gap: f64, p: Point) -> bool
     ensures { result ≡ real_of (material_of points.now starts.now n.solids n.all) gap p }
 {
-    if is_deep(gap) {
-        return holds(points, starts, n.solids, n.all, p);
-    }
-    true
+    !is_deep(gap) || holds(points, starts, n.solids, n.all, p)
 }
 
 // Side A's disc on side B's face.
-pub fn on_face_b(points: &[Spot], starts: &[usize], n: Polygons, d: Disc, f: Face) -> MaybeProximity
+pub fn on_face_b(
+    points: &[Spot],
+    starts: &[usize],
+    n: Polygons,
+    d: Disc,
+    f: Face,
+) -> Option<Proximity>
     ensures { result ≡ kept_if (λ x. real_of (material_of points.now starts.now n.solids n.all) x.gap (on_a x)) (disc_on_face d f) }
 {
-    let found = geometry::signed::disc_on_face(d, f);
-    match found {
-        MaybeProximity::SomeProximity(x) => {
-            if real(points, starts, n, x.gap, x.on_a()) {
-                MaybeProximity::SomeProximity(x)
-            } else {
-                MaybeProximity::NoProximity
-            }
-        }
-        MaybeProximity::NoProximity => MaybeProximity::NoProximity,
-    }
+    geometry::signed::disc_on_face(d, f).filter(|x| real(points, starts, n, x.gap, x.on_a()))
 }
 
 // Side B's disc on side A's face, read from A.
-pub fn on_face_a(points: &[Spot], starts: &[usize], n: Polygons, d: Disc, f: Face) -> MaybeProximity
+pub fn on_face_a(
+    points: &[Spot],
+    starts: &[usize],
+    n: Polygons,
+    d: Disc,
+    f: Face,
+) -> Option<Proximity>
     ensures { result ≡ kept_if (λ x. real_of (material_of points.now starts.now n.solids n.all) x.gap (on_b x)) (exchanged (disc_on_face d f)) }
 {
-    let found = geometry::signed::disc_on_face(d, f);
-    match found {
-        MaybeProximity::SomeProximity(y) => {
-            let x = y.reversed();
-            if real(points, starts, n, x.gap, x.on_b()) {
-                MaybeProximity::SomeProximity(x)
-            } else {
-                MaybeProximity::NoProximity
-            }
-        }
-        MaybeProximity::NoProximity => MaybeProximity::NoProximity,
-    }
+    let found = geometry::signed::disc_on_face(d, f).map(|x| x.reversed());
+    found.filter(|x| real(points, starts, n, x.gap, x.on_b()))
 }
 
 // ---- the centre of side B on a face of side A
@@ -144,10 +128,7 @@ pub fn on_face_a(points: &[Spot], starts: &[usize], n: Polygons, d: Disc, f: Fac
 fn center_real(points: &[Spot], starts: &[usize], n: Polygons, p: Point, gap: f64) -> bool
     ensures { result ≡ center_real (material_of points.now starts.now n.solids n.all) p gap }
 {
-    if is_deep(gap) {
-        return -gap - 0.001 <= depth(points, starts, n.solids, n.all, p);
-    }
-    true
+    !is_deep(gap) || -gap - 0.001 <= depth(points, starts, n.solids, n.all, p)
 }
 
 pub fn center_on(
@@ -156,29 +137,16 @@ pub fn center_on(
     n: Polygons,
     c: Point,
     f: Face,
-) -> MaybeProximity
+) -> Option<Proximity>
     ensures { result ≡ kept_if (λ x. center_real (material_of points.now starts.now n.solids n.all) c x.gap) (center_on_face c f) }
 {
-    let found = geometry::signed::center_on_face(c, f);
-    match found {
-        MaybeProximity::SomeProximity(x) => {
-            if center_real(points, starts, n, c, x.gap) {
-                MaybeProximity::SomeProximity(x)
-            } else {
-                MaybeProximity::NoProximity
-            }
-        }
-        MaybeProximity::NoProximity => MaybeProximity::NoProximity,
-    }
+    geometry::signed::center_on_face(c, f).filter(|x| center_real(points, starts, n, c, x.gap))
 }
 
 // ---- whether the material is asked for
 
-pub fn found_deep(found: MaybeProximity) -> bool
+pub fn found_deep(found: Option<Proximity>) -> bool
     ensures { result ≡ found_deep found }
 {
-    match found {
-        MaybeProximity::SomeProximity(x) => is_deep(x.gap),
-        MaybeProximity::NoProximity => false,
-    }
+    found.is_some_and(|x| is_deep(x.gap))
 }

@@ -1,14 +1,13 @@
 -- The whole reading of a prepared description at a pose. Definitions only.
-use Rattle.std.specs.Prelude.{ℕ, List, [], map, ltb, length, Float}
+use Rattle.std.specs.Prelude.{ℕ, List, [], map, ltb, length, Float, Result, Ok, Err}
 use Rattle.laws.specs.Fill.{filled}
 use Rattle.laws.specs.Lists.{list_in}
-use Rattle.bodies.specs.Check.{and_then, refused_if}
-use Rattle.bodies.specs.Pose.{bodies_posed, posed_of}
+use Rattle.bodies.specs.Check.{Checked, and_then, refused_if}
+use Rattle.bodies.specs.Pose.{bodies_posed, bodies_placed}
 use Rattle.mechanism.specs.Rows.{place_row, value_row, gap_in}
 use Rattle.mechanism.specs.Rows as Rows
 use Rattle.bodies.specs.declared.Bodies.{Bodies}
-use Rattle.bodies.specs.declared.Checked.{Checked}
-use Rattle.bodies.specs.declared.Checked.TheVariants.{Accepted, Refused}
+use Rattle.bodies.specs.declared.Problem.{Problem}
 use Rattle.bodies.specs.declared.Problem.TheVariants.{LimitPassed}
 use Rattle.bodies.specs.declared.pose.Pose.{Pose}
 use Rattle.mechanism.specs.declared.rows.Row.{Row}
@@ -22,10 +21,6 @@ use Rattle.reading.specs.Reading.{no_pair_reading}
 use Rattle.reading.specs.declared.PairReading.{PairReading}
 use Rattle.reading.specs.declared.Reading.{Reading}
 
--- the pose of the bodies for lent entries
-abbrev pub pose_of : Bodies → List (List Float) → Pose
-pose_of b entries = (posed_of (bodies_posed b entries) b entries).pose
-
 module _ (faces : List (List Float)) (fnames : List (List ℕ)) (discs : List (List Float)) (dnames : List (List ℕ)) (sides : List (List ℕ)) (centers : List (List Float)) (choices : List (List ℕ)) (drawn sampled : List (List Float)) (parts : List (List ℕ)) where
   -- of one pair, the rows standing in arrays
   abbrev pub pair_reading_in : Pose → List (List ℕ) → List (List Float) → ℕ → ℕ → PairReading
@@ -38,18 +33,17 @@ module _ (faces : List (List Float)) (fnames : List (List ℕ)) (discs : List (L
   abbrev pub pair_readings_in : Pose → List (List ℕ) → List (List Float) → ℕ → ℕ → List PairReading
   pair_readings_in q places values n pairs = filled 16 no_pair_reading (list_in (pair_reading_in q places values n) pairs 0)
 
-  abbrev pub read_in : Checked → ℕ → Pose → List Row → Reading
-  read_in Accepted pairs q rows = record {
-    checked = Accepted;
+  abbrev pub read_in : Checked → ℕ → Pose → List Row → Result Reading Problem
+  read_in (Ok tt) pairs q rows = Ok (record {
     count = length rows;
     pairs = pairs;
     pair = pair_readings_in q (map place_row rows) (map value_row rows) (length rows) pairs;
-  }
-  read_in (Refused p) pairs q rows = record { checked = Refused p; count = 0; pairs = 0; pair = filled 16 no_pair_reading [] }
+  })
+  read_in (Err p) pairs q rows = Err p
 
 -- 3, 4 and 11 of bodies, pairs and entries, then those of the rows
 unfoldable pub read_checked : Bodies → ℕ → List (List ℕ) → List (List Float) → (places values grad slip : ℕ) → Checked
 read_checked b pairs sides entries places values grad slip =
     and_then (refused_if (ltb 16 pairs) LimitPassed)
     (and_then (bodies_posed b entries)
-    (prepared_checked b pairs sides (pose_of b entries) places values grad slip))
+    (prepared_checked b pairs sides (bodies_placed b entries) places values grad slip))

@@ -1,15 +1,11 @@
 -- The whole reading of a description at a pose: its rows, and of every pair the overlaps and the bearing. Definitions only.
-use Rattle.std.specs.Prelude.{ℕ, List, [], map, length, Float}
+use Rattle.std.specs.Prelude.{ℕ, List, map, length, Float, Option, None, Result, Ok, Err}
 use Rattle.laws.specs.Fill.{filled}
 use Rattle.laws.specs.Lists.{list_in}
 use Rattle.ieee.specs.Consts.{zero_f}
 use Rattle.mechanism.specs.Description.{pair_at}
 use Rattle.mechanism.specs.Rows.{place_row, value_row, pair_in, gap_in}
-use Rattle.bodies.specs.declared.Checked.{Checked}
-use Rattle.bodies.specs.declared.Checked.TheVariants.{Accepted, Refused}
 use Rattle.mechanism.specs.declared.Mechanism.{Mechanism}
-use Rattle.mechanism.specs.declared.bearing.MaybeBearing.{MaybeBearing}
-use Rattle.mechanism.specs.declared.bearing.MaybeBearing.TheVariants.{NoBearing}
 use Rattle.bodies.specs.declared.pose.Pose.{Pose}
 use Rattle.mechanism.specs.declared.rows.Row.{Row}
 use Rattle.overlap.specs.Overlap.{pair_overlap}
@@ -19,9 +15,12 @@ use Rattle.governing.specs.Governing.{governing_of}
 use Rattle.bearings.specs.Bearing.{governed_bearing, row_at}
 use Rattle.reading.specs.declared.PairReading.{PairReading}
 use Rattle.reading.specs.declared.Reading.{Reading}
+use Rattle.bodies.specs.Check.{Checked}
+use Rattle.bodies.specs.declared.Problem.{Problem}
+use Rattle.mechanism.specs.declared.bearing.Bearing.{Bearing}
 
 -- the bearing of pair i by its governing row among n rows in arrays
-abbrev pub bearing_by : Mechanism → Pose → List (List ℕ) → List (List Float) → ℕ → ℕ → MaybeBearing
+abbrev pub bearing_by : Mechanism → Pose → List (List ℕ) → List (List Float) → ℕ → ℕ → Option Bearing
 bearing_by m q places values n i = governed_bearing (features_of_pair m i) q (row_at places values) (governing_of (pair_in places) (gap_in values) n i)
 
 -- of one pair, the rows standing in arrays
@@ -33,19 +32,18 @@ pair_reading m q places values n i = record {
 }
 
 abbrev pub no_pair_reading : PairReading
-no_pair_reading = record { overlap = zero_f; face_overlap = zero_f; bearing = NoBearing }
+no_pair_reading = record { overlap = zero_f; face_overlap = zero_f; bearing = None }
 
 abbrev pub pair_readings : Mechanism → Pose → List (List ℕ) → List (List Float) → ℕ → List PairReading
 pair_readings m q places values n = filled 16 no_pair_reading (list_in (pair_reading m q places values n) m.pairs.count 0)
 
-abbrev pub read_if : Checked → Mechanism → Pose → List Row → Reading
-read_if Accepted m q rows = record {
-  checked = Accepted;
+abbrev pub read_if : Checked → Mechanism → Pose → List Row → Result Reading Problem
+read_if (Ok tt) m q rows = Ok (record {
   count = length rows;
   pairs = m.pairs.count;
   pair = pair_readings m q (map place_row rows) (map value_row rows) (length rows);
-}
-read_if (Refused p) m q rows = record { checked = Refused p; count = 0; pairs = 0; pair = filled 16 no_pair_reading [] }
+})
+read_if (Err p) m q rows = Err p
 
-unfoldable pub reading_of : Mechanism → Pose → Float → (places values grad slip : ℕ) → Reading
+unfoldable pub reading_of : Mechanism → Pose → Float → (places values grad slip : ℕ) → Result Reading Problem
 reading_of m q margin places values grad slip = read_if (rows_checked m q places values grad slip) m q (rows_of m q margin)

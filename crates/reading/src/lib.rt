@@ -1,12 +1,10 @@
 // The whole reading of a description at a pose, after one check: its rows, and of every pair the overlaps and the bearing.
 #![tactic(auto)]
 
-ghost use Rattle.std.specs.Prelude.{◌≡◌, true, [], map, ◌≤◌, length};
+ghost use Rattle.std.specs.Prelude.{◌≡◌, true, map, ◌≤◌, length};
 ghost use Rattle.std.proofs.lemmas.List.Edits.{sets};
-ghost use Rattle.laws.specs.Fill.{filled};
 ghost use Rattle.mechanism.specs.Check.{check_of, pair_drawn};
 ghost use Rattle.mechanism.specs.Rows.{place_row, value_row, pair_in, gap_in};
-ghost use Rattle.bodies.specs.declared.Checked.TheVariants.{Accepted, Refused};
 ghost use Rattle.sides.specs.Contacts.{pair_features};
 ghost use Rattle.overlap.specs.Overlap.{pair_overlap};
 ghost use Rattle.faces.specs.Faces.{sides_overlap};
@@ -18,15 +16,15 @@ ghost use Rattle.reading.specs.Reading.{pair_readings, no_pair_reading, reading_
 pub mod prepared;
 
 use bearings::governed;
+use bodies::Problem;
 use bodies::pose::Pose;
-use bodies::{Checked, Problem};
 use faces::sides_overlap;
-use mechanism::bearing::MaybeBearing;
+use mechanism::bearing::Bearing;
 use mechanism::pair::ContactPair;
 use mechanism::rows::{Place, Value};
 use mechanism::{Mechanism, Outlines, Pairs, Parts};
 use overlap::pair_overlap_at;
-use shown_rows::{RowsAnswer, rows_in_numbers};
+use shown_rows::rows_in_numbers;
 use sides::contacts::{PairFeatures, pair_features_at};
 
 // What is read of one pair beside its rows.
@@ -34,13 +32,12 @@ use sides::contacts::{PairFeatures, pair_features_at};
 pub struct PairReading {
     pub overlap: f64,
     pub face_overlap: f64,
-    pub bearing: MaybeBearing,
+    pub bearing: Option<Bearing>,
 }
 
-// How many rows were written, and what is read of each of the first `pairs` pairs, or the first refusal that applies.
+// How many rows were written, and what is read of each of the first `pairs` pairs.
 #[derive(Clone, Copy)]
 pub struct Reading {
-    pub checked: Checked,
     pub count: usize,
     pub pairs: usize,
     pub pair: [PairReading; 16],
@@ -52,7 +49,7 @@ fn no_pair() -> PairReading
     PairReading {
         overlap: 0.0,
         face_overlap: 0.0,
-        bearing: MaybeBearing::NoBearing,
+        bearing: None,
     }
 }
 
@@ -71,52 +68,40 @@ fn read_pair(
     ensures { result ≡ record { overlap = pair_overlap ps o q p; face_overlap = sides_overlap (pair_features ps o p) q; bearing = governed_bearing (pair_features ps o p) q (row_at places.now values.now) (governing_of (pair_in places.now) (gap_in values.now) (records_in n (length places.now) (length values.now)) i) } }
 {
     let f = pair_features_at(ps, o, p);
-    let overlap = pair_overlap_at(ps, o, q, p);
-    let face_overlap = sides_overlap(f, q);
-    let bearing = governed(f, q, places, values, n, i);
     PairReading {
-        overlap,
-        face_overlap,
-        bearing,
+        overlap: pair_overlap_at(ps, o, q, p),
+        face_overlap: sides_overlap(f, q),
+        bearing: governed(f, q, places, values, n, i),
     }
 }
 
 // Every pair of an accepted description by the n rows that are there.
 fn read_pairs(m: Mechanism, q: Pose, places: &[Place], values: &[Value], n: usize) -> Reading
-    requires { (check_of m ≡ Accepted) × (n ≤ length places.now) × (n ≤ length values.now) }
-    ensures { result ≡ record { checked = Accepted; count = n; pairs = m.pairs.count; pair = pair_readings m q places.now values.now n } }
+    requires { (check_of m ≡ Ok tt) × (n ≤ length places.now) × (n ≤ length values.now) }
+    ensures { result ≡ record { count = n; pairs = m.pairs.count; pair = pair_readings m q places.now values.now n } }
 {
-    let ps = m.parts;
-    let o = m.outlines;
-    let pairs = m.pairs;
-    let count = pairs.count;
     let mut pair = [no_pair(); 16];
-    let mut i: usize = 0;
-    while i < count {
-        let p = pairs.pair[i];
-        pair[i] = read_pair(ps, o, q, p, i, places, values, n);
-        i += 1;
+    for i in 0..m.pairs.count {
+        pair[i] = read_pair(
+            m.parts,
+            m.outlines,
+            q,
+            m.pairs.pair[i],
+            i,
+            places,
+            values,
+            n,
+        );
     }
     Reading {
-        checked: Checked::Accepted,
         count: n,
-        pairs: count,
+        pairs: m.pairs.count,
         pair,
     }
 }
 
-fn refused(p: Problem) -> Reading
-    ensures { result ≡ record { checked = Refused p; count = 0; pairs = 0; pair = filled 16 no_pair_reading [] } }
-{
-    Reading {
-        checked: Checked::Refused(p),
-        count: 0,
-        pairs: 0,
-        pair: [no_pair(); 16],
-    }
-}
-
 // Writes the rows of every pair whose gap is not above the margin, with their gradients and slips, as `rows_in_numbers` does, and reads the overlaps and the bearing of every pair.
+#[tactic(auto, unfolding(crate::specs::Reading::reading_of))]
 pub fn read(
     m: Mechanism,
     q: Pose,
@@ -125,17 +110,13 @@ pub fn read(
     values: &mut [Value],
     grad: &mut [f64],
     slip: &mut [f64],
-) -> Reading
+) -> Result<Reading, Problem>
     ensures value { result ≡ reading_of m q margin (length places.old) (length values.old) (length grad.old) (length slip.old) }
     ensures places_after { places.new ≡ if_accepted (rows_checked m q (length places.old) (length values.old) (length grad.old) (length slip.old)) (sets places.old 0 (map place_row (rows_of m q margin))) places.old }
     ensures values_after { values.new ≡ if_accepted (rows_checked m q (length places.old) (length values.old) (length grad.old) (length slip.old)) (sets values.old 0 (map value_row (rows_of m q margin))) values.old }
     ensures grad_after { grad.new ≡ if_accepted (rows_checked m q (length places.old) (length values.old) (length grad.old) (length slip.old)) (sets grad.old 0 (grads_of m q margin)) grad.old }
     ensures slip_after { slip.new ≡ if_accepted (rows_checked m q (length places.old) (length values.old) (length grad.old) (length slip.old)) (sets slip.old 0 (slips_of m q margin)) slip.old }
 {
-    let a = rows_in_numbers(m, q, margin, places, values, grad, slip);
-    let c = a.checked;
-    match c {
-        Checked::Refused(p) => refused(p),
-        Checked::Accepted => read_pairs(m, q, places, values, a.count),
-    }
+    let n = rows_in_numbers(m, q, margin, places, values, grad, slip)?;
+    Ok(read_pairs(m, q, places, values, n))
 }

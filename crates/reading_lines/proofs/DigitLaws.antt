@@ -3,13 +3,11 @@ use Prim.Native.Nat.{ℕ, zero, suc, ◌+◌, ◌*◌, ◌-◌, ◌/◌, ◌%◌
 use native.Mathlib.Omega.{arith}
 use native.Mathlib.Numerals.{add-one}
 use native.Mathlib.Nat.{pow-suc}
-use mathlib.Core.Path.{◌≡◌, refl, sym, ap, subst, ◌∙◌}
-use mathlib.Core.Bool.{Bool, true, false}
+use mathlib.Core.Path.{◌≡◌, refl, sym, ap, ◌∙◌}
 use mathlib.Core.List.{List, [], ◌∷◌}
-use lib.Dec.{ltb}
 use lib.ListN.{length, set, length-set, length-append}
 use lib.Seq.{sets, set_comm}
-use borrow.Author.Tests.{ltb-true, ltb-false, lt-ltb, le-ltb}
+use borrow.Author.Tests.{lt-ltb, le-ltb}
 use Rattle.laws.proofs.Choice.{cond_yes, cond_no}
 use Rattle.laws.proofs.Writing.{sets-append}
 use Rattle.reading_lines.specs.Digits.{digit_of, last_digits, digit_count, decimal_of}
@@ -52,9 +50,6 @@ pub record Backwards (out₀ : List ℕ) (at base n v : ℕ) (out : List ℕ) (l
   pub long : length out ≡ length out₀
   pub written : sets out at (last_digits base left rest) ≡ sets out₀ at (last_digits base n v)
 
-pub writes_start : (out : List ℕ) (at base n v : ℕ) → Backwards out at base n v out n v
-writes_start out at base n v = record { far = omega arith; long = refl; written = refl }
-
 module _ {out₀ : List ℕ} {at base n v : ℕ} {out : List ℕ} {left rest : ℕ} (w : Backwards out₀ at base n v out left rest) where
   pub writes_more : (d : ℕ) → 0 < left → d ≡ digit_of (rest % base) → Backwards out₀ at base n v (set out (at + (left - 1)) d) (left - 1) (rest / base)
   writes_more d h e =
@@ -83,44 +78,19 @@ unfolding digit_count
 count-one zero v h = refl
 count-one (suc k) v h = cond_yes _ _ (lt-ltb v 10 h)
 
--- A number v of which n - 1 digits are counted, `rest` being the others.
-pub record Counting (v n rest : ℕ) : Type 0 where
-  pub some : 1 ≤ n
-  pub far : n ≤ 20
-  pub small : rest < 10 ^ (21 - n)
-  pub same : digit_count (20 - n) rest + (n - 1) ≡ digit_count 19 v
-
-pub counts_start : (v : ℕ) → v < 10 ^ 20 → Counting v 1 v
-counts_start v h = record { some = omega arith; far = omega arith; small = h; same = omega arith }
-
-module _ {v n rest : ℕ} (w : Counting v n rest) where
-  pub counts-room : 10 ≤ rest → n < 20
-  counts-room h = go (ltb n 20) refl
-    where
-      go : (t : Bool) → ltb n 20 ≡ t → n < 20
-      go true e = ltb-true n 20 e
-      go false e =
-          let one : 21 - n ≡ 1 = omega (arith, w.far, ltb-false n 20 e) in
-          let small : rest < 10 ^ 1 = subst (λ (k : ℕ). rest < 10 ^ k) one w.small in
-          absurd (omega (arith, small))
-
-  pub counts-more : 10 ≤ rest → Counting v (n + 1) (rest / 10)
-  counts-more h =
-      let room : n < 20 = counts-room h in
-      let p : 21 - n ≡ suc (20 - n) = omega arith in
-      let p' : 21 - (n + 1) ≡ 20 - n = omega arith in
-      let q : 20 - n ≡ suc (20 - (n + 1)) = omega arith in
-      let small : rest < 10 ^ (20 - n) * 10 = subst (λ (k : ℕ). rest < k) (ap (λ (k : ℕ). 10 ^ k) p ∙ pow-suc 10 (20 - n)) w.small in
-      let one : digit_count (20 - n) rest ≡ digit_count (20 - (n + 1)) (rest / 10) + 1 = ap (λ (k : ℕ). digit_count k rest) q ∙ count-more (20 - (n + 1)) rest h in
-      record {
-        some = omega arith;
-        far = omega arith;
-        small = subst (λ (k : ℕ). rest / 10 < 10 ^ k) (sym p') (omega (arith, small));
-        same = omega (arith, one, w.same, w.some);
-      }
-
-  pub counts_end : rest < 10 → n ≡ digit_count 19 v
-  counts_end h = omega (arith, count-one (20 - n) rest h, w.same, w.some)
+-- the power of ten below a number says how many
+pub count-power : (n k v : ℕ) → k ≤ n → 10 ^ k ≤ v → v < 10 * 10 ^ k → digit_count n v ≡ k + 1
+count-power n zero v b l h = count-one n v (omega arith)
+count-power zero (suc k) v b l h = absurd (omega arith)
+count-power (suc n) (suc k) v b l h =
+    let p : 10 ^ suc k ≡ 10 ^ k * 10 = pow-suc 10 k in
+    let one : 1 ≤ 10 ^ k = pow-some k in
+    let r : digit_count n (v / 10) ≡ k + 1 = count-power n k (v / 10) (omega arith) (omega arith) (omega arith) in
+    count-more n v (omega arith) ∙ omega arith
+  where
+    pow-some : (i : ℕ) → 1 ≤ 10 ^ i
+    pow-some zero = omega arith
+    pow-some (suc i) = omega (arith, pow-suc 10 i, pow-some i)
 
 -- ---- a whole number
 pub length-decimal : (v : ℕ) → length (decimal_of v) ≡ digit_count 19 v

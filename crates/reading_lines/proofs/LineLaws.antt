@@ -9,6 +9,7 @@ use lib.Seq.{sets, length-sets, drop-cons}
 use lib.Ieee.{Float}
 use Rattle.laws.specs.Loops.{Writing}
 use Rattle.laws.proofs.Writing.{sets-append, starts, appends, ends, ends-count}
+use Rattle.reading_lines.proofs.ReadBack.{length-pattern}
 use Rattle.reading_lines.specs.Lines.{Room, Wrote, float_field, float_fields}
 
 pub wrote_then : (xs ys : List ℕ) {l m o : List ℕ} {at k n : ℕ} → Wrote l at xs k m → Wrote m k ys n o → Wrote l at (xs ++ ys) n o
@@ -19,6 +20,8 @@ wrote_then xs ys {l} {m} {o} {at} w v = record {
 
 pub wrote_length : {xs l m : List ℕ} {at k : ℕ} → Wrote l at xs k m → length m ≡ length l
 wrote_length {xs} {l} {m} {at} w = ap length w.there ∙ length-sets l at xs
+
+pub ruleset writing = (length-append, length-pattern, wrote_length, sets-append)
 
 pub room-first : (xs ys : List ℕ) {l : List ℕ} {at : ℕ} → Room l at (xs ++ ys) → Room l at xs
 room-first xs ys h = record { inside = omega (arith, h.inside, length-append xs ys) }

@@ -14,10 +14,9 @@ use borrow.Author.Tests.{ltb-true, ltb-false, lt-ltb, le-leb, lt-leb, eq-eqb, ne
 use Rattle.laws.proofs.Choice.{cond_yes, cond_no, and_yes, no_and, or_yes, or_no, both}
 use Rattle.text.specs.Lists.{all_of, fold_of}
 use Rattle.text.specs.Fields.{is_digit, written, decimal, number_of, is_hex, hex_of, pattern, float_of}
-use Rattle.text.specs.declared.fields.Whole.TheVariants.{Number}
-use Rattle.text.specs.declared.fields.Real.TheVariants.{Value}
 use Rattle.reading_lines.specs.Digits.{digit_of, last_digits, digit_count, decimal_of, pattern_of}
 use Rattle.reading_lines.proofs.DigitLaws.{digit_low, digit-high, length_last, length-decimal, count-one, count-more}
+use Rattle.std.proofs.Common.{Some}
 
 -- ---- the list of one digit more
 module _ {A : Type 0} (f : A → ℕ → A) where
@@ -165,13 +164,13 @@ pub decimal-back : (v : ℕ) → v < 10 ^ 20 → decimal (decimal_of v) ≡ v
 unfolding decimal_of decimal
 decimal-back v h = read_last 10 (omega arith) (λ (b : ℕ). b - 48) digit-back (digit_count 19 v) v (count-enough 19 v h)
 
-pub number-back : (v : ℕ) → v ≤ 65535 → number_of (decimal_of v) ≡ Number v
+pub number-back : (v : ℕ) → v ≤ 65535 → number_of (decimal_of v) ≡ Some v
 unfolding number_of
 number-back v h =
     let l : v < 10 ^ 20 = omega arith in
     let d : decimal (decimal_of v) ≡ v = decimal-back v l in
     let s : leb (decimal (decimal_of v)) 65535 ≡ true = le-leb (decimal (decimal_of v)) 65535 (omega (arith, d)) in
-    cond_yes _ _ (and_yes _ (decimal-written v l) ∙ and_yes _ (decimal-digits v) ∙ s) ∙ ap Number d
+    cond_yes _ _ (and_yes _ (decimal-written v l) ∙ and_yes _ (decimal-digits v) ∙ s) ∙ ap Some d
 
 -- ---- a float
 pub length-pattern : (x : Float) → length (pattern_of x) ≡ 16
@@ -187,8 +186,8 @@ unfolding pattern_of pattern
 bits_back x h = read_last 16 (omega arith) hex_of hex_back 16 (to_bits binary64 x) (to_bits-lt binary64 x h)
 
 -- a double, the NaN among them
-pub pattern-back : (x : Float) → T (fits binary64 x) → float_of (pattern_of x) ≡ Value x
+pub pattern-back : (x : Float) → T (fits binary64 x) → float_of (pattern_of x) ≡ Some x
 unfolding float_of
 pattern-back x h =
     cond_yes _ _ (and_yes _ (eq-eqb (length (pattern_of x)) 16 (length-pattern x)) ∙ pattern-digits x)
-    ∙ ap Value (ap (of_bits binary64) (bits_back x h) ∙ of_bits-to_bits binary64 x h)
+    ∙ ap Some (ap (of_bits binary64) (bits_back x h) ∙ of_bits-to_bits binary64 x h)

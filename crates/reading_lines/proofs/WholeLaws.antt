@@ -15,8 +15,6 @@ use Rattle.laws.proofs.Loops.{join_turn, join_none, join_done}
 use Rattle.laws.proofs.Writing.{starts, goes_on, appends, ends, ends-count}
 use Rattle.ieee.specs.Consts.{zero_f}
 use Rattle.mechanism.specs.Rows.{place_row, value_row}
-use Rattle.bodies.specs.declared.Checked.{Checked}
-use Rattle.bodies.specs.declared.Checked.TheVariants.{Accepted, Refused}
 use Rattle.mechanism.specs.declared.Mechanism.{Mechanism}
 use Rattle.bodies.specs.declared.Problem.{Problem}
 use Rattle.bodies.specs.declared.pose.Pose.{Pose}
@@ -34,8 +32,10 @@ use Rattle.reading_lines.specs.Lines.{Room, Wrote, one_byte, number_field, refus
 use Rattle.reading_lines.specs.Readings as L
 use Rattle.reading_lines.specs.Readings.{other_lines, reading_at, all_lines, refusal, read_lines, Held, all_lines_in, longest}
 use Rattle.reading_lines.proofs.LineLaws.{room-first, room-rest, room_as}
-use Rattle.reading_lines.proofs.WholeSizes.{digits-few, all-fits}
-use Rattle.reading_lines.proofs.WholeRead.{all_same, all_held, few-pairs}
+use Rattle.reading_lines.proofs.WholeSizes.{digits-few, all-fits, accepted-small}
+use Rattle.reading_lines.proofs.WholeRead.{read_by, all_same, all_held}
+use Rattle.std.proofs.Common.{Ok, Err}
+use Rattle.bodies.specs.Check.{Checked}
 
 -- ---- a refusal has room
 pub number-few : (v : ℕ) → length (number_field v) ≤ 21
@@ -97,7 +97,7 @@ columns_part l f c = let e : f + c - f ≡ c = omega arith in ap (λ (k : ℕ). 
 
 -- ---- a reading tells of sixteen pairs
 pub reading-long : (r : Reading) (vs : List Val) → Is R.the_row r vs → length r.pair ≡ 16
-reading-long r vs p = array_length P.the_row 16 r.pair _ p.1.1.1.1.1.0
+reading-long r vs p = array_length P.the_row 16 r.pair _ p.1.1.1.1.0
 
 pub other_same : (r : Reading) (i : ℕ) (d : PairReading) → length r.pair ≡ 16 → i < r.pairs → r.pairs ≤ 16
     → other_lines i (reading_at r i) ≡ other_lines i (get_or r.pair i d)
@@ -114,17 +114,17 @@ no_values = replicate 256 (replicate 5 zero_f)
 abbrev pub no_columns : List Float
 no_columns = replicate 4096 zero_f
 
-reading-checked : (c : Checked) (m : Mechanism) (q : Pose) (rows : List Row) → (T.read_if c m q rows).checked ≡ c
-reading-checked Accepted m q rows = refl
-reading-checked (Refused p) m q rows = refl
+module _ (m : Mechanism) (q : Pose) (rows : List Row) where
+  refused-by : (c : Checked) (p : Problem) → Err p ≡ T.read_if c m q rows → c ≡ Err p
+  refused-by (Ok tt) p e = cc
+  refused-by (Err x) p e = let h : x ≡ p = cc in ap Err h
 
-whole-checked : (m : Mechanism) (q : Pose) (margin : Float) (a b c d : ℕ) → (reading_of m q margin a b c d).checked ≡ rows_checked m q a b c d
-unfolding reading_of
-whole-checked m q margin a b c d = reading-checked (rows_checked m q a b c d) m q (rows_of m q margin)
+  accepted-by : (c : Checked) (r : Reading) → Ok r ≡ T.read_if c m q rows → (c ≡ Ok tt) × (r ≡ read_by m q rows)
+  accepted-by (Ok tt) r e = (refl, cc)
+  accepted-by (Err x) r e = cc
 
 module _ (m : Mechanism) (q : Pose) (margin : Float) (places : List (List ℕ)) (values : List (List Float)) (grad slip : List Float)
-    (lp : length places ≡ 256) (lv : length values ≡ 256) (lg : length grad ≡ 4096) (ls : length slip ≡ 4096)
-    {r : Reading} (e : r ≡ reading_of m q margin (length places) (length values) (length grad) (length slip)) where
+    (lp : length places ≡ 256) (lv : length values ≡ 256) (lg : length grad ≡ 4096) (ls : length slip ≡ 4096) where
   abbrev checked : Checked
   checked = rows_checked m q (length places) (length values) (length grad) (length slip)
 
@@ -135,52 +135,55 @@ module _ (m : Mechanism) (q : Pose) (margin : Float) (places : List (List ℕ)) 
       ∙ ap (λ (n : ℕ). f 256 256 n (length slip)) lg
       ∙ ap (f 256 256 4096) ls
 
-  told : {c : Checked} → r.checked ≡ c → checked ≡ c
-  told h = sym (whole-checked m q margin (length places) (length values) (length grad) (length slip)) ∙ sym (ap (λ (x : Reading). x.checked) e) ∙ h
+  says : {c : Checked} → checked ≡ c → rows_checked m q 256 256 4096 4096 ≡ c
+  says h = sym (four (rows_checked m q)) ∙ h
 
-  says : {c : Checked} → r.checked ≡ c → rows_checked m q 256 256 4096 4096 ≡ c
-  says h = sym (four (rows_checked m q)) ∙ told h
+  pub read_refused : {p : Problem} → Err p ≡ reading_of m q margin (length places) (length values) (length grad) (length slip) → read_lines m q margin ≡ refusal p
+  unfolding reading_of
+  read_refused {p} e = ap (λ (c : Checked). L.read_if c m q margin) (says (refused-by m q (rows_of m q margin) checked p e))
 
-  pub read_refused : (p : Problem) → r.checked ≡ Refused p → read_lines m q margin ≡ refusal p
-  read_refused p h = ap (λ (c : Checked). L.read_if c m q margin) (says h)
-
-  module _ (h : r.checked ≡ Accepted) {ps : List (List ℕ)} {vs : List (List Float)} {gs ss : List Float}
+  module _ {r : Reading} (e : Ok r ≡ reading_of m q margin (length places) (length values) (length grad) (length slip))
+      {ps : List (List ℕ)} {vs : List (List Float)} {gs ss : List Float}
       (ep : ps ≡ if_accepted checked (sets places 0 (map place_row (rows_of m q margin))) places)
       (ev : vs ≡ if_accepted checked (sets values 0 (map value_row (rows_of m q margin))) values)
       (eg : gs ≡ if_accepted checked (sets grad 0 (grads_of m q margin)) grad) (es : ss ≡ if_accepted checked (sets slip 0 (slips_of m q margin)) slip) where
+    told : (checked ≡ Ok tt) × (r ≡ read_by m q (rows_of m q margin))
+    unfolding reading_of
+    told = accepted-by m q (rows_of m q margin) checked r e
+
     kept : {A : Type 0} (new old : List A) {l : List A} → l ≡ if_accepted checked new old → l ≡ new
-    kept new old k = k ∙ ap (λ (c : Checked). if_accepted c new old) (told h)
+    kept new old k = k ∙ ap (λ (c : Checked). if_accepted c new old) told.0
 
     -- what holds of the rows as they are written, and of what is read by them, holds of what is there
     five : (F : List (List ℕ) → List (List Float) → List Float → List Float → Reading → Type 0)
         → F (sets places 0 (map place_row (rows_of m q margin))) (sets values 0 (map value_row (rows_of m q margin)))
         (sets grad 0 (grads_of m q margin)) (sets slip 0 (slips_of m q margin))
-        (reading_of m q margin 256 256 4096 4096)
+        (read_by m q (rows_of m q margin))
         → F ps vs gs ss r
     five F x =
         let rows = rows_of m q margin in
         let g = sets grad 0 (grads_of m q margin) in
         let s = sets slip 0 (slips_of m q margin) in
-        let t = reading_of m q margin 256 256 4096 4096 in
-        subst (λ (u : Reading). F ps vs gs ss u) (sym (e ∙ four (reading_of m q margin)))
+        let t = read_by m q rows in
+        subst (λ (u : Reading). F ps vs gs ss u) (sym told.1)
         (subst₂ (λ (a b : List Float). F ps vs a b t) (sym (kept g grad eg)) (sym (kept s slip es))
         (subst₂ (λ (a : List (List ℕ)) (b : List (List Float)). F a b g s t)
         (sym (kept (sets places 0 (map place_row rows)) places ep)) (sym (kept (sets values 0 (map value_row rows)) values ev)) x))
 
     there : Held m.bodies.coords r.count ps vs gs ss × (r.pairs ≤ 16) × (all_lines_in m.bodies.coords ps vs gs ss r ≡ all_lines m q margin)
     there =
-        let k = says h in
+        let k = says told.0 in
         five (λ x y a b t. Held m.bodies.coords t.count x y a b × (t.pairs ≤ 16) × (all_lines_in m.bodies.coords x y a b t ≡ all_lines m q margin))
-        (all_held m q margin places values grad slip lp lv lg ls k, few-pairs m q margin k, all_same m q margin places values grad slip lp lv lg ls k)
+        (all_held m q margin places values grad slip lp lv lg ls k, (accepted-small m q margin k).pairs, all_same m q margin places values grad slip lp lv lg ls k)
 
     -- what `all_lines` asks for
     pub read_ready : (out : List ℕ) → longest ≤ length out
         → Held m.bodies.coords r.count ps vs gs ss × (r.pairs ≤ 16) × Room out 0 (all_lines_in m.bodies.coords ps vs gs ss r)
     read_ready out l =
-        let k = says h in
+        let k = says told.0 in
         let t = there in
         let n = ap length t.2 in
         (t.0, t.1, record { inside = omega (arith, n, all-fits m q margin k) })
 
     pub read_accepted : read_lines m q margin ≡ all_lines_in m.bodies.coords ps vs gs ss r
-    read_accepted = ap (λ (c : Checked). L.read_if c m q margin) (says h) ∙ sym there.2
+    read_accepted = ap (λ (c : Checked). L.read_if c m q margin) (says told.0) ∙ sym there.2

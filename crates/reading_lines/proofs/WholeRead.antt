@@ -13,8 +13,6 @@ use borrow.Author.Tests.{eqb-true}
 use Rattle.laws.specs.Lists.{flat, list_in}
 use Rattle.laws.specs.Loops.{join_in}
 use Rattle.mechanism.specs.Rows.{place_row, value_row, pair_in}
-use Rattle.bodies.specs.declared.Checked.{Checked}
-use Rattle.bodies.specs.declared.Checked.TheVariants.{Accepted}
 use Rattle.mechanism.specs.declared.Mechanism.{Mechanism}
 use Rattle.mechanism.specs.declared.features.Piece.TheVariants.{Center}
 use Rattle.bodies.specs.declared.pose.Pose.{Pose}
@@ -22,7 +20,7 @@ use Rattle.mechanism.specs.declared.rows.Row.{Row}
 use Rattle.shown_rows.specs.Rows.{rows_of_pair, rows_of, grads_of, slips_of, rows_checked}
 use Rattle.shown_rows.proofs.AllPairs.{flat-long}
 use Rattle.bearings.specs.Bearing.{row_at}
-use Rattle.reading.specs.Reading.{read_if, reading_of}
+use Rattle.reading.specs.Reading.{pair_readings}
 use Rattle.reading.specs.declared.Reading.{Reading}
 use Rattle.reading.proofs.Arrays.{read_back}
 use Rattle.reading.proofs.There.{pair-there}
@@ -31,6 +29,7 @@ use Rattle.demand3.proofs.Rows.{all-grads, all-slips, grad_long, slip_long, all_
 use Rattle.reading_lines.specs.Lines.{row_line, columns_line}
 use Rattle.reading_lines.specs.Readings.{row_lines, read_of, other_lines, pair_lines, all_lines, row_lines_in, pair_rows_in, reading_at, pair_lines_in, all_lines_in, Held}
 use Rattle.reading_lines.proofs.WholeSizes.{Small, accepted-small}
+use Rattle.std.proofs.Common.{Ok}
 
 -- ---- lists joined by index, and by element
 -- over the numbers from j on
@@ -99,22 +98,23 @@ named m q i r = go (eqb r.pair i) refl
     go true e = ap (λ (k : ℕ). row_lines m q k r) (eqb-true r.pair i e)
     go false e = refl
 
-module _ (m : Mechanism) (q : Pose) (margin : Float) (e : rows_checked m q 256 256 4096 4096 ≡ Accepted) where
+-- the reading of rows, where it is not refused
+abbrev pub read_by : Mechanism → Pose → List Row → Reading
+read_by m q rows = record {
+  count = length rows;
+  pairs = m.pairs.count;
+  pair = pair_readings m q (map place_row rows) (map value_row rows) (length rows);
+}
+
+module _ (m : Mechanism) (q : Pose) (margin : Float) (e : rows_checked m q 256 256 4096 4096 ≡ Ok tt) where
   abbrev rows : List Row
   rows = rows_of m q margin
 
   abbrev coords : ℕ
   coords = m.bodies.coords
 
-  abbrev reading : Reading
-  reading = reading_of m q margin 256 256 4096 4096
-
   small : Small m q margin
   small = accepted-small m q margin e
-
-  accepted : reading ≡ read_if Accepted m q rows
-  unfolding reading_of
-  accepted = ap (λ (c : Checked). read_if c m q rows) e
 
   columns_fit : length rows * coords ≤ 4096
   columns_fit = let p : length rows * coords ≤ 256 * 16 = mul-le-mul small.rows small.coords in omega (arith, p)
@@ -126,7 +126,7 @@ module _ (m : Mechanism) (q : Pose) (margin : Float) (e : rows_checked m q 256 2
   slips-length = ap length (all-slips m q margin) ∙ flat-long (slip_of_row m q) coords (slip_long m q) rows
 
   -- what is read of pair i
-  read_there : (i : ℕ) → i < m.pairs.count → reading_at (read_if Accepted m q rows) i ≡ read_of m q margin i
+  read_there : (i : ℕ) → i < m.pairs.count → reading_at (read_by m q rows) i ≡ read_of m q margin i
   read_there i h = pair-there m q (map place_row rows) (map value_row rows) (length rows) i small.pairs h
 
   module _ (places : List (List ℕ)) (values : List (List Float)) (grad slip : List Float)
@@ -175,43 +175,35 @@ module _ (m : Mechanism) (q : Pose) (margin : Float) (e : rows_checked m q 256 2
             → cond (eqb (pair_in ps (0 + j)) i) (row_lines_in coords ps vs gs ss (0 + j)) [] ≡ cond (eqb (get_or rows j none).pair i) (row_lines m q i (get_or rows j none)) []
         turn j k = ap (λ (n : ℕ). cond (eqb (pair_in ps n) i) (row_lines_in coords ps vs gs ss n) []) (zero-add j) ∙ turn-there i j k
 
-    pairs-there : all_lines_in coords ps vs gs ss (read_if Accepted m q rows) ≡ all_lines m q margin
+    pairs-there : all_lines_in coords ps vs gs ss (read_by m q rows) ≡ all_lines m q margin
     unfolding all_lines_in all_lines
     pairs-there =
-        join_numbers (pair_lines_in coords ps vs gs ss (read_if Accepted m q rows)) (pair_lines m q margin) m.pairs.count 0
+        join_numbers (pair_lines_in coords ps vs gs ss (read_by m q rows)) (pair_lines m q margin) m.pairs.count 0
         (λ i h. pair-there i (omega (arith, h)))
       where
-        pair-there : (i : ℕ) → i < m.pairs.count → pair_lines_in coords ps vs gs ss (read_if Accepted m q rows) i ≡ pair_lines m q margin i
+        pair-there : (i : ℕ) → i < m.pairs.count → pair_lines_in coords ps vs gs ss (read_by m q rows) i ≡ pair_lines m q margin i
         pair-there i h = ap₂ (λ (a b : List ℕ). a ++ b) (rows-there i h) (ap (other_lines i) (read_there i h))
 
 -- ---- what is listed from the arrays is the listing of the rows
 pub all_same : (m : Mechanism) (q : Pose) (margin : Float) (places : List (List ℕ)) (values : List (List Float)) (grad slip : List Float)
-    → length places ≡ 256 → length values ≡ 256 → length grad ≡ 4096 → length slip ≡ 4096 → rows_checked m q 256 256 4096 4096 ≡ Accepted
+    → length places ≡ 256 → length values ≡ 256 → length grad ≡ 4096 → length slip ≡ 4096 → rows_checked m q 256 256 4096 4096 ≡ Ok tt
     → all_lines_in m.bodies.coords (sets places 0 (map place_row (rows_of m q margin))) (sets values 0 (map value_row (rows_of m q margin)))
-    (sets grad 0 (grads_of m q margin)) (sets slip 0 (slips_of m q margin)) (reading_of m q margin 256 256 4096 4096) ≡ all_lines m q margin
-all_same m q margin places values grad slip lp lv lg ls e =
-    ap (all_lines_in m.bodies.coords (sets places 0 (map place_row (rows_of m q margin))) (sets values 0 (map value_row (rows_of m q margin)))
-    (sets grad 0 (grads_of m q margin)) (sets slip 0 (slips_of m q margin))) (accepted m q margin e)
-    ∙ pairs-there m q margin e places values grad slip lp lv lg ls
+    (sets grad 0 (grads_of m q margin)) (sets slip 0 (slips_of m q margin)) (read_by m q (rows_of m q margin)) ≡ all_lines m q margin
+all_same m q margin places values grad slip lp lv lg ls e = pairs-there m q margin e places values grad slip lp lv lg ls
 
 -- ---- what the listing asks of the arrays and of the reading
 pub all_held : (m : Mechanism) (q : Pose) (margin : Float) (places : List (List ℕ)) (values : List (List Float)) (grad slip : List Float)
-    → length places ≡ 256 → length values ≡ 256 → length grad ≡ 4096 → length slip ≡ 4096 → rows_checked m q 256 256 4096 4096 ≡ Accepted
-    → Held m.bodies.coords (reading_of m q margin 256 256 4096 4096).count (sets places 0 (map place_row (rows_of m q margin)))
+    → length places ≡ 256 → length values ≡ 256 → length grad ≡ 4096 → length slip ≡ 4096 → rows_checked m q 256 256 4096 4096 ≡ Ok tt
+    → Held m.bodies.coords (length (rows_of m q margin)) (sets places 0 (map place_row (rows_of m q margin)))
     (sets values 0 (map value_row (rows_of m q margin))) (sets grad 0 (grads_of m q margin)) (sets slip 0 (slips_of m q margin))
 all_held m q margin places values grad slip lp lv lg ls e =
     let s = accepted-small m q margin e in
-    let n = ap (λ (r : Reading). r.count) (accepted m q margin e) in
-    let c = ap (λ (k : ℕ). k * m.bodies.coords) n in
     let f = columns_fit m q margin e in
     record {
       few = s.coords;
-      many = omega (arith, n, s.rows);
-      placed = omega (arith, n, s.rows, lp, length-sets places 0 (map place_row (rows_of m q margin)));
-      valued = omega (arith, n, s.rows, lv, length-sets values 0 (map value_row (rows_of m q margin)));
-      grads = omega (arith, c, f, lg, length-sets grad 0 (grads_of m q margin));
-      slips = omega (arith, c, f, ls, length-sets slip 0 (slips_of m q margin));
+      many = s.rows;
+      placed = omega (arith, s.rows, lp, length-sets places 0 (map place_row (rows_of m q margin)));
+      valued = omega (arith, s.rows, lv, length-sets values 0 (map value_row (rows_of m q margin)));
+      grads = omega (arith, f, lg, length-sets grad 0 (grads_of m q margin));
+      slips = omega (arith, f, ls, length-sets slip 0 (slips_of m q margin));
     }
-
-pub few-pairs : (m : Mechanism) (q : Pose) (margin : Float) → rows_checked m q 256 256 4096 4096 ≡ Accepted → (reading_of m q margin 256 256 4096 4096).pairs ≤ 16
-few-pairs m q margin e = omega (arith, ap (λ (r : Reading). r.pairs) (accepted m q margin e), (accepted-small m q margin e).pairs)

@@ -14,14 +14,9 @@ use Rattle.laws.proofs.Lists.{flat-short, list_length}
 use Rattle.geometry.specs.Geometry.{vector_of}
 use Rattle.bodies.specs.Pose.{pose_fits}
 use Rattle.bodies.specs.declared.Bodies.{Bodies}
-use Rattle.bodies.specs.declared.Checked.TheVariants.{Accepted}
 use Rattle.mechanism.specs.declared.Mechanism.{Mechanism}
 use Rattle.mechanism.specs.declared.bearing.HowItBears.{HowItBears}
 use Rattle.mechanism.specs.declared.bearing.HowItBears.TheVariants.{Flat, StopEdge, KeyCorner}
-use Rattle.mechanism.specs.declared.bearing.MaybeBearing.{MaybeBearing}
-use Rattle.mechanism.specs.declared.bearing.MaybeBearing.TheVariants.{SomeBearing, NoBearing}
-use Rattle.mechanism.specs.declared.bearing.MaybeSlope.{MaybeSlope}
-use Rattle.mechanism.specs.declared.bearing.MaybeSlope.TheVariants.{SomeSlope, NoSlope}
 use Rattle.mechanism.specs.declared.features.Piece.{Piece}
 use Rattle.mechanism.specs.declared.features.Piece.TheVariants.{Segment, Arc, Vertex, Center}
 use Rattle.bodies.specs.declared.pose.Pose.{Pose}
@@ -39,6 +34,8 @@ use Rattle.reading_lines.specs.Lines.{row_line, columns_line, overlap_line, bear
 use Rattle.reading_lines.specs.Readings.{row_lines, read_of, pair_lines, all_lines, longest}
 use Rattle.reading_lines.proofs.DigitLaws.{length-decimal}
 use Rattle.reading_lines.proofs.ReadBack.{length-pattern}
+use Rattle.std.proofs.Common.{Option, Some, None, Ok}
+use Rattle.mechanism.specs.declared.bearing.Bearing.{Bearing}
 
 -- ---- digits
 count-few : (k v : ℕ) → digit_count k v ≤ suc k
@@ -100,19 +97,19 @@ how_long Flat = letter_long _
 how_long StopEdge = letter_long _
 how_long KeyCorner = letter_long _
 
-slope_few : (s : MaybeSlope) → length (slope_field s) ≤ 17
-slope_few (SomeSlope x) = omega (arith, float_long x)
-slope_few NoSlope = letter_few _
+slope_few : (s : Option Float) → length (slope_field s) ≤ 17
+slope_few (Some x) = omega (arith, float_long x)
+slope_few None = letter_few _
   where
     letter_few : (b : ℕ) → length (letter_field b) ≤ 17
     letter_few b = omega (arith, letter_long b)
 
-bearing-few : (b : MaybeBearing) → length (bearing_fields b) ≤ 70
-bearing-few (SomeBearing b) =
+bearing-few : (b : Option Bearing) → length (bearing_fields b) ≤ 70
+bearing-few (Some b) =
     two-few (how_field b.how) _ 2 68 (omega (arith, how_long b.how))
     (two-few (float_field b.gap) _ 17 51 (omega (arith, float_long b.gap))
     (two-few (two_fields b.point.x b.point.y) (slope_field b.slope) 34 17 (omega (arith, two-long b.point.x b.point.y)) (slope_few b.slope)))
-bearing-few NoBearing = letter_few _
+bearing-few None = letter_few _
   where
     letter_few : (b : ℕ) → length (letter_field b) ≤ 70
     letter_few b = omega (arith, letter_long b)
@@ -147,7 +144,7 @@ overlap_few pair x y =
     (two-few (number_field pair) _ 21 35 (number-few pair)
     (two-few (two_fields x y) _ 34 1 (omega (arith, two-long x y)) (byte_few _)))
 
-pub bears_few : (pair : ℕ) (b : MaybeBearing) → length (bearing_line pair b) ≤ 93
+pub bears_few : (pair : ℕ) (b : Option Bearing) → length (bearing_line pair b) ≤ 93
 unfolding bearing_line
 bears_few pair b =
     two-few (one_byte _) _ 1 92 (byte_few _)
@@ -160,7 +157,7 @@ pub record Small (m : Mechanism) (q : Pose) (margin : Float) : Type 0 where
   pub pairs : m.pairs.count ≤ 16
   pub rows : length (rows_of m q margin) ≤ 256
 
-pub accepted-small : (m : Mechanism) (q : Pose) (margin : Float) → rows_checked m q 256 256 4096 4096 ≡ Accepted → Small m q margin
+pub accepted-small : (m : Mechanism) (q : Pose) (margin : Float) → rows_checked m q 256 256 4096 4096 ≡ Ok tt → Small m q margin
 accepted-small m q margin e =
     let a = call_accepted m (pose_fits m.bodies q) true (room_for m 256 256 4096 4096) e in
     let bound = mechanism_bound m in
@@ -209,7 +206,7 @@ module _ (m : Mechanism) (q : Pose) (margin : Float) (h : m.bodies.coords ≤ 16
   unfolding all_lines rows_of
   all_lines_lem = flat-few (rows_of_pair m q margin) (pair_lines m q margin) pair-few (pair_numbers m)
 
-pub all-fits : (m : Mechanism) (q : Pose) (margin : Float) → rows_checked m q 256 256 4096 4096 ≡ Accepted → length (all_lines m q margin) ≤ longest
+pub all-fits : (m : Mechanism) (q : Pose) (margin : Float) → rows_checked m q 256 256 4096 4096 ≡ Ok tt → length (all_lines m q margin) ≤ longest
 all-fits m q margin e =
     let s = accepted-small m q margin e in
     omega (arith, s.rows, s.pairs, all_lines_lem m q margin s.coords, list_length (λ i. i) m.pairs.count 0)

@@ -6,12 +6,11 @@ use lib.Ieee.{Float, nan, neg, binary64, of_bits, to_bits}
 use Rattle.mechanism.specs.declared.features.Piece.TheVariants.{Segment, Vertex, Center}
 use Rattle.mechanism.specs.declared.rows.Row.{Row}
 use Rattle.mechanism.specs.declared.bearing.HowItBears.TheVariants.{Flat, KeyCorner}
-use Rattle.mechanism.specs.declared.bearing.MaybeSlope.TheVariants.{SomeSlope, NoSlope}
 use Rattle.mechanism.specs.declared.bearing.Bearing.{Bearing}
-use Rattle.mechanism.specs.declared.bearing.MaybeBearing.TheVariants.{SomeBearing, NoBearing}
 use Rattle.text.specs.Bytes.{bytes}
 use Rattle.reading_lines.specs.Digits.{last_digits, digit_count, decimal_of, pattern_of}
 use Rattle.reading_lines.specs.Lines.{one_byte, letter_field, number_field, float_field, two_fields, float_fields, piece_fields, row_line, columns_line, overlap_line, bearing_line, refusal_line}
+use Rattle.std.proofs.Common.{Some, None}
 
 none : decimal_of 0 ≡ bytes "0"
 unfolding decimal_of digit_count last_digits
@@ -52,13 +51,13 @@ row = record {
 }
 
 abbrev bearing : Bearing
-bearing = record { how = KeyCorner; gap = row.gap; point = row.point; slope = SomeSlope (f 0xc000_0000_0000_0000) }
+bearing = record { how = KeyCorner; gap = row.gap; point = row.point; slope = Some (f 0xc000_0000_0000_0000) }
 
 pub record Paper : Type 0 where
   pub rows : row_line row ≡ bytes "R,0,V,1,0,S,0,2,3fe0000000000000,0000000000000000,3ff0000000000000,3fe0000000000000,3ff4000000000000\n"
   pub columns : columns_line (f 0x3ff0_0000_0000_0000 ∷ []) (f 0 ∷ []) ≡ bytes "D,3ff0000000000000,0000000000000000\n"
   pub overlap : overlap_line 0 (f 0) (f 0) ≡ bytes "O,0,0000000000000000,0000000000000000\n"
-  pub bears : bearing_line 0 (SomeBearing bearing) ≡ bytes "B,0,C,3fe0000000000000,3fe0000000000000,3ff4000000000000,c000000000000000\n"
+  pub bears : bearing_line 0 (Some bearing) ≡ bytes "B,0,C,3fe0000000000000,3fe0000000000000,3ff4000000000000,c000000000000000\n"
 
 pub paper : Paper
 unfolding row_line columns_line overlap_line bearing_line one_byte letter_field number_field float_field two_fields float_fields decimal_of digit_count last_digits pattern_of of_bits to_bits
@@ -68,8 +67,8 @@ paper = record { rows = refl; columns = refl; overlap = refl; bears = refl }
 pub record Others : Type 0 where
   pub no_coordinates : columns_line [] [] ≡ bytes "D\n"
   pub centre : piece_fields (Center 12) ≡ bytes ",C,12,-"
-  pub no_bearing : bearing_line 15 NoBearing ≡ bytes "B,15,N\n"
-  pub no_slope : bearing_line 3 (SomeBearing (record { how = Flat; gap = nan; point = row.point; slope = NoSlope })) ≡ bytes "B,3,F,7ff8000000000000,3fe0000000000000,3ff4000000000000,N\n"
+  pub no_bearing : bearing_line 15 None ≡ bytes "B,15,N\n"
+  pub no_slope : bearing_line 3 (Some (record { how = Flat; gap = nan; point = row.point; slope = None })) ≡ bytes "B,3,F,7ff8000000000000,3fe0000000000000,3ff4000000000000,N\n"
   pub refusal : refusal_line 10 31 ≡ bytes "X,10,31\n"
 
 pub others : Others

@@ -1,5 +1,5 @@
 -- The lines of a listing, as bytes. Definitions only.
-use Rattle.std.specs.Prelude.{ℕ, ◌+◌, ◌≤◌, ◌≡◌, List, [], ◌∷◌, ◌++◌, length, Float}
+use Rattle.std.specs.Prelude.{ℕ, ◌+◌, ◌≤◌, ◌≡◌, List, [], ◌∷◌, ◌++◌, length, Float, Option, Some, None}
 use Prim.Native.Char.{code}
 use Rattle.std.proofs.lemmas.List.Edits.{sets}
 use Rattle.mechanism.specs.declared.features.Piece.{Piece}
@@ -7,11 +7,7 @@ use Rattle.mechanism.specs.declared.features.Piece.TheVariants.{Segment, Arc, Ve
 use Rattle.mechanism.specs.declared.rows.Row.{Row}
 use Rattle.mechanism.specs.declared.bearing.HowItBears.{HowItBears}
 use Rattle.mechanism.specs.declared.bearing.HowItBears.TheVariants.{Flat, StopEdge, KeyCorner}
-use Rattle.mechanism.specs.declared.bearing.MaybeSlope.{MaybeSlope}
-use Rattle.mechanism.specs.declared.bearing.MaybeSlope.TheVariants.{SomeSlope, NoSlope}
 use Rattle.mechanism.specs.declared.bearing.Bearing.{Bearing}
-use Rattle.mechanism.specs.declared.bearing.MaybeBearing.{MaybeBearing}
-use Rattle.mechanism.specs.declared.bearing.MaybeBearing.TheVariants.{SomeBearing, NoBearing}
 use Rattle.reading_lines.specs.Digits.{decimal_of, pattern_of}
 
 -- a slice has room for the bytes xs from `at` on
@@ -62,9 +58,9 @@ how_field Flat = letter_field (code "F")
 how_field StopEdge = letter_field (code "E")
 how_field KeyCorner = letter_field (code "C")
 
-abbrev pub slope_field : MaybeSlope → List ℕ
-slope_field (SomeSlope x) = float_field x
-slope_field NoSlope = letter_field (code "N")
+abbrev pub slope_field : Option Float → List ℕ
+slope_field (Some x) = float_field x
+slope_field None = letter_field (code "N")
 
 -- ---- lines
 abbrev newline : List ℕ
@@ -92,11 +88,11 @@ overlap_line pair x y = one_byte (code "O") ++ (number_field pair ++ (two_fields
 abbrev pub bearing_of : Bearing → List ℕ
 bearing_of b = how_field b.how ++ (float_field b.gap ++ (two_fields b.point.x b.point.y ++ slope_field b.slope))
 
-abbrev pub bearing_fields : MaybeBearing → List ℕ
-bearing_fields (SomeBearing b) = bearing_of b
-bearing_fields NoBearing = letter_field (code "N")
+abbrev pub bearing_fields : Option Bearing → List ℕ
+bearing_fields (Some b) = bearing_of b
+bearing_fields None = letter_field (code "N")
 
-unfoldable pub bearing_line : ℕ → MaybeBearing → List ℕ
+unfoldable pub bearing_line : ℕ → Option Bearing → List ℕ
 bearing_line pair b = one_byte (code "B") ++ (number_field pair ++ (bearing_fields b ++ newline))
 
 unfoldable pub refusal_line : ℕ → ℕ → List ℕ

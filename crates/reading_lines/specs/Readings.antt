@@ -1,11 +1,9 @@
 -- The lines of a whole reading, pair by pair, or of its refusal (document 01, "The sheet text"). Definitions only.
-use Rattle.std.specs.Prelude.{ℕ, ◌*◌, ◌≤◌, cond, List, [], ◌++◌, map, eqb, length, get_or, take, drop, Float}
+use Rattle.std.specs.Prelude.{ℕ, ◌*◌, ◌≤◌, cond, List, [], ◌++◌, map, eqb, length, get_or, take, drop, Float, Ok, Err}
 use Rattle.laws.specs.Lists.{flat}
 use Rattle.laws.specs.Loops.{join_in}
-use Rattle.bodies.specs.Check.{number_of, place_of}
+use Rattle.bodies.specs.Check.{Checked, number_of, place_of}
 use Rattle.mechanism.specs.Rows.{place_row, value_row, pair_in}
-use Rattle.bodies.specs.declared.Checked.{Checked}
-use Rattle.bodies.specs.declared.Checked.TheVariants.{Accepted, Refused}
 use Rattle.mechanism.specs.declared.Mechanism.{Mechanism}
 use Rattle.bodies.specs.declared.Problem.{Problem}
 use Rattle.bodies.specs.declared.pose.Pose.{Pose}
@@ -41,8 +39,8 @@ refusal p = refusal_line (number_of p) (place_of p)
 
 -- 13 with 256 rows lent
 abbrev pub read_if : Checked → Mechanism → Pose → Float → List ℕ
-read_if Accepted m q margin = all_lines m q margin
-read_if (Refused p) m q margin = refusal p
+read_if (Ok tt) m q margin = all_lines m q margin
+read_if (Err p) m q margin = refusal p
 
 abbrev pub read_lines : Mechanism → Pose → Float → List ℕ
 read_lines m q margin = read_if (rows_checked m q 256 256 4096 4096) m q margin

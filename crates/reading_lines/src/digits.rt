@@ -19,12 +19,10 @@ fn put_digits(out: &mut [u8], at: usize, base: u64, n: usize, v: u64)
     requires { (2 ≤ base) × (base ≤ 16) × (at + n ≤ length out.old) }
     ensures { out.new ≡ sets out.old at (last_digits base n v) }
 {
-    let mut left = n;
     let mut rest = v;
-    while 0 < left {
-        left -= 1;
-        out[at + left] = digit(rest % base);
-        rest = rest / base;
+    for i in (0..n).rev() {
+        out[at + i] = digit(rest % base);
+        rest /= base;
     }
 }
 
@@ -32,16 +30,14 @@ fn put_digits(out: &mut [u8], at: usize, base: u64, n: usize, v: u64)
 fn digit_count(v: u64) -> usize
     ensures { result ≡ digit_count 19 v }
 {
-    let mut n: usize = 1;
-    let mut rest = v;
-    while 10 <= rest {
-        rest = rest / 10;
-        n += 1;
+    match v.checked_ilog10() {
+        Some(k) => k as usize + 1,
+        None => 1,
     }
-    n
 }
 
 // A whole number, written from `at` on; the place behind it.
+#[tactic(auto, unfolding(crate::specs::Digits::decimal_of), using(crate::proofs::DigitLaws::length_last))]
 pub(crate) fn put_number(out: &mut [u8], at: usize, v: usize) -> usize
     requires { at + length (decimal_of v) ≤ length out.old }
     ensures { (result ≡ at + length (decimal_of v)) × (out.new ≡ sets out.old at (decimal_of v)) }
@@ -53,6 +49,7 @@ pub(crate) fn put_number(out: &mut [u8], at: usize, v: usize) -> usize
 }
 
 // A float, written from `at` on; the place behind it.
+#[tactic(auto, unfolding(crate::specs::Digits::pattern_of))]
 pub(crate) fn put_pattern(out: &mut [u8], at: usize, x: f64) -> usize
     requires { at + 16 ≤ length out.old }
     ensures { (result ≡ at + 16) × (out.new ≡ sets out.old at (pattern_of x)) }

@@ -2,10 +2,11 @@
 ghost use Rattle.reading_lines.specs.Lines.{Room, Wrote, one_byte, letter_field, number_field, float_field, two_fields, float_fields, place_fields, centre_fields, piece_fields, how_field, slope_field, row_line, columns_line, overlap_line, bearing_of, bearing_fields, bearing_line, refusal_line};
 
 use super::digits::{put_number, put_pattern};
-use mechanism::bearing::{Bearing, HowItBears, MaybeBearing, MaybeSlope};
+use mechanism::bearing::{Bearing, HowItBears};
 use mechanism::features::Piece;
 use mechanism::rows::Row;
 
+#[tactic(auto, unfolding(crate::specs::Lines::one_byte))]
 fn put_byte(out: &mut [u8], at: usize, b: u8) -> usize
     requires { Room out.old at (one_byte b) }
     ensures { Wrote out.old at (one_byte b) result out.new }
@@ -16,6 +17,7 @@ fn put_byte(out: &mut [u8], at: usize, b: u8) -> usize
 
 // ---- fields, each behind its comma
 
+#[tactic(auto, unfolding(crate::specs::Lines::letter_field), using(crate::proofs::LineLaws::writing))]
 fn letter_field(out: &mut [u8], at: usize, b: u8) -> usize
     requires { Room out.old at (letter_field b) }
     ensures { Wrote out.old at (letter_field b) result out.new }
@@ -24,6 +26,7 @@ fn letter_field(out: &mut [u8], at: usize, b: u8) -> usize
     put_byte(out, k, b)
 }
 
+#[tactic(auto, unfolding(crate::specs::Lines::number_field), using(crate::proofs::LineLaws::writing))]
 fn number_field(out: &mut [u8], at: usize, v: usize) -> usize
     requires { Room out.old at (number_field v) }
     ensures { Wrote out.old at (number_field v) result out.new }
@@ -32,6 +35,7 @@ fn number_field(out: &mut [u8], at: usize, v: usize) -> usize
     put_number(out, k, v)
 }
 
+#[tactic(auto, unfolding(crate::specs::Lines::float_field), using(crate::proofs::LineLaws::writing))]
 fn float_field(out: &mut [u8], at: usize, x: f64) -> usize
     requires { Room out.old at (float_field x) }
     ensures { Wrote out.old at (float_field x) result out.new }
@@ -40,6 +44,7 @@ fn float_field(out: &mut [u8], at: usize, x: f64) -> usize
     put_pattern(out, k, x)
 }
 
+#[tactic(auto, unfolding(crate::specs::Lines::two_fields), using(crate::proofs::LineLaws::writing))]
 fn two_fields(out: &mut [u8], at: usize, x: f64, y: f64) -> usize
     requires { Room out.old at (two_fields x y) }
     ensures { Wrote out.old at (two_fields x y) result out.new }
@@ -54,14 +59,13 @@ fn float_fields(out: &mut [u8], at: usize, xs: &[f64]) -> usize
     ensures { Wrote out.old at (float_fields xs.now) result out.new }
 {
     let mut k = at;
-    let mut i: usize = 0;
-    while i < xs.len() {
-        k = float_field(out, k, xs[i]);
-        i += 1;
+    for x in xs {
+        k = float_field(out, k, *x);
     }
     k
 }
 
+#[tactic(auto, using(crate::proofs::LineLaws::writing))]
 fn place_fields(out: &mut [u8], at: usize, letter: u8, part: usize, seg: usize) -> usize
     requires { Room out.old at (place_fields letter part seg) }
     ensures { Wrote out.old at (place_fields letter part seg) result out.new }
@@ -71,6 +75,7 @@ fn place_fields(out: &mut [u8], at: usize, letter: u8, part: usize, seg: usize) 
     number_field(out, m, seg)
 }
 
+#[tactic(auto, using(crate::proofs::LineLaws::writing))]
 fn centre_fields(out: &mut [u8], at: usize, part: usize) -> usize
     requires { Room out.old at (centre_fields part) }
     ensures { Wrote out.old at (centre_fields part) result out.new }
@@ -103,29 +108,27 @@ fn how_field(out: &mut [u8], at: usize, h: HowItBears) -> usize
     }
 }
 
-fn slope_field(out: &mut [u8], at: usize, s: MaybeSlope) -> usize
+fn slope_field(out: &mut [u8], at: usize, s: Option<f64>) -> usize
     requires { Room out.old at (slope_field s) }
     ensures { Wrote out.old at (slope_field s) result out.new }
 {
     match s {
-        MaybeSlope::SomeSlope(x) => float_field(out, at, x),
-        MaybeSlope::NoSlope => letter_field(out, at, b'N'),
+        Some(x) => float_field(out, at, x),
+        None => letter_field(out, at, b'N'),
     }
 }
 
 // ---- lines
 
+#[tactic(auto, unfolding(crate::specs::Lines::row_line), using(crate::proofs::LineLaws::writing))]
 pub(crate) fn row_line(out: &mut [u8], at: usize, r: Row) -> usize
     requires { Room out.old at (row_line r) }
     ensures { Wrote out.old at (row_line r) result out.new }
 {
-    let f = r.feature;
-    let a = f.a;
-    let b = f.b;
     let k1 = put_byte(out, at, b'R');
     let k2 = number_field(out, k1, r.pair);
-    let k3 = piece_fields(out, k2, a);
-    let k4 = piece_fields(out, k3, b);
+    let k3 = piece_fields(out, k2, r.feature.a);
+    let k4 = piece_fields(out, k3, r.feature.b);
     let k5 = float_field(out, k4, r.gap);
     let k6 = two_fields(out, k5, r.normal.x, r.normal.y);
     let k7 = two_fields(out, k6, r.point.x, r.point.y);
@@ -133,6 +136,7 @@ pub(crate) fn row_line(out: &mut [u8], at: usize, r: Row) -> usize
 }
 
 // All gradients of a row, then all slips.
+#[tactic(auto, unfolding(crate::specs::Lines::columns_line), using(crate::proofs::LineLaws::writing))]
 pub(crate) fn columns_line(out: &mut [u8], at: usize, gradients: &[f64], slips: &[f64]) -> usize
     requires { Room out.old at (columns_line gradients.now slips.now) }
     ensures { Wrote out.old at (columns_line gradients.now slips.now) result out.new }
@@ -143,6 +147,7 @@ pub(crate) fn columns_line(out: &mut [u8], at: usize, gradients: &[f64], slips: 
     put_byte(out, k3, b'\n')
 }
 
+#[tactic(auto, unfolding(crate::specs::Lines::overlap_line), using(crate::proofs::LineLaws::writing))]
 pub(crate) fn overlap_line(out: &mut [u8], at: usize, pair: usize, x: f64, y: f64) -> usize
     requires { Room out.old at (overlap_line pair x y) }
     ensures { Wrote out.old at (overlap_line pair x y) result out.new }
@@ -153,6 +158,7 @@ pub(crate) fn overlap_line(out: &mut [u8], at: usize, pair: usize, x: f64, y: f6
     put_byte(out, k3, b'\n')
 }
 
+#[tactic(auto, unfolding(crate::specs::Lines::refusal_line), using(crate::proofs::LineLaws::writing))]
 pub(crate) fn refusal_line(out: &mut [u8], at: usize, number: usize, place: usize) -> usize
     requires { Room out.old at (refusal_line number place) }
     ensures { Wrote out.old at (refusal_line number place) result out.new }
@@ -164,29 +170,29 @@ pub(crate) fn refusal_line(out: &mut [u8], at: usize, number: usize, place: usiz
 }
 
 // What stands behind the pair.
+#[tactic(auto, using(crate::proofs::LineLaws::writing))]
 fn some_bearing(out: &mut [u8], at: usize, b: Bearing) -> usize
     requires { Room out.old at (bearing_of b) }
     ensures { Wrote out.old at (bearing_of b) result out.new }
 {
-    let how = b.how;
-    let slope = b.slope;
-    let k1 = how_field(out, at, how);
+    let k1 = how_field(out, at, b.how);
     let k2 = float_field(out, k1, b.gap);
     let k3 = two_fields(out, k2, b.point.x, b.point.y);
-    slope_field(out, k3, slope)
+    slope_field(out, k3, b.slope)
 }
 
-fn bearing_fields(out: &mut [u8], at: usize, b: MaybeBearing) -> usize
+fn bearing_fields(out: &mut [u8], at: usize, b: Option<Bearing>) -> usize
     requires { Room out.old at (bearing_fields b) }
     ensures { Wrote out.old at (bearing_fields b) result out.new }
 {
     match b {
-        MaybeBearing::SomeBearing(x) => some_bearing(out, at, x),
-        MaybeBearing::NoBearing => letter_field(out, at, b'N'),
+        Some(x) => some_bearing(out, at, x),
+        None => letter_field(out, at, b'N'),
     }
 }
 
-pub(crate) fn bearing_line(out: &mut [u8], at: usize, pair: usize, b: MaybeBearing) -> usize
+#[tactic(auto, unfolding(crate::specs::Lines::bearing_line), using(crate::proofs::LineLaws::writing))]
+pub(crate) fn bearing_line(out: &mut [u8], at: usize, pair: usize, b: Option<Bearing>) -> usize
     requires { Room out.old at (bearing_line pair b) }
     ensures { Wrote out.old at (bearing_line pair b) result out.new }
 {

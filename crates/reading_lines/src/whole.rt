@@ -5,9 +5,9 @@ ghost use Rattle.reading_lines.specs.Readings.{Held, row_lines_in, pair_rows_in,
 
 use super::lines::{bearing_line, columns_line, overlap_line, refusal_line, row_line};
 use bodies::pose::Pose;
-use bodies::{Bodies, Checked, Problem};
+use bodies::{Bodies, Problem};
 use mechanism::Mechanism;
-use mechanism::bearing::MaybeBearing;
+use mechanism::bearing::Bearing;
 use mechanism::rows::{Place, Row, Value, row_from};
 use reading::{PairReading, Reading, read};
 
@@ -52,26 +52,22 @@ fn pair_rows(
     ensures { Wrote out.old at (pair_rows_in coords places.now values.now grad.now slip.now n i) result out.new }
 {
     let mut k = at;
-    let mut j: usize = 0;
-    while j < n {
-        let x = places[j];
-        let row = j;
-        j += 1;
-        if x[0] == i {
-            k = row_lines(out, k, places, values, grad, slip, coords, n, row);
+    for j in 0..n {
+        if places[j][0] == i {
+            k = row_lines(out, k, places, values, grad, slip, coords, n, j);
         }
     }
     k
 }
 
 // The overlaps and the bearing of pair i.
+#[tactic(auto, using(crate::proofs::LineLaws::writing))]
 fn other_lines(out: &mut [u8], at: usize, i: usize, x: PairReading) -> usize
     requires { Room out.old at (other_lines i x) }
     ensures { Wrote out.old at (other_lines i x) result out.new }
 {
-    let b = x.bearing;
     let k = overlap_line(out, at, i, x.overlap, x.face_overlap);
-    bearing_line(out, k, i, b)
+    bearing_line(out, k, i, x.bearing)
 }
 
 // Pair by pair.
@@ -87,15 +83,10 @@ fn all_lines(
     requires { Held coords r.count places.now values.now grad.now slip.now × (r.pairs ≤ 16) × Room out.old 0 (all_lines_in coords places.now values.now grad.now slip.now r) }
     ensures { Wrote out.old 0 (all_lines_in coords places.now values.now grad.now slip.now r) result out.new }
 {
-    let n = r.count;
-    let pairs = r.pairs;
     let mut k: usize = 0;
-    let mut i: usize = 0;
-    while i < pairs {
-        let x = r.pair[i];
-        let to = pair_rows(out, k, places, values, grad, slip, coords, n, i);
-        k = other_lines(out, to, i, x);
-        i += 1;
+    for i in 0..r.pairs {
+        let to = pair_rows(out, k, places, values, grad, slip, coords, r.count, i);
+        k = other_lines(out, to, i, r.pair[i]);
     }
     k
 }
@@ -115,11 +106,8 @@ pub fn read_lines(out: &mut Listed, m: Mechanism, q: Pose, margin: f64) -> usize
     let mut values = [[0.0; 5]; 256];
     let mut grad = [0.0; 4096];
     let mut slip = [0.0; 4096];
-    let bodies = m.bodies;
-    let r = read(m, q, margin, &mut places, &mut values, &mut grad, &mut slip);
-    let c = r.checked;
-    match c {
-        Checked::Refused(p) => refused(out, p),
-        Checked::Accepted => all_lines(out, &places, &values, &grad, &slip, bodies.coords, r),
+    match read(m, q, margin, &mut places, &mut values, &mut grad, &mut slip) {
+        Ok(r) => all_lines(out, &places, &values, &grad, &slip, m.bodies.coords, r),
+        Err(p) => refused(out, p),
     }
 }

@@ -12,48 +12,27 @@ use text::fields::{field, real_at};
 
 // The number that decimal digits say, of the last six of them.
 fn whole(digits: &[u8]) -> usize {
-    let mut v: usize = 0;
-    let mut i: usize = 0;
-    while i < digits.len() {
-        v = v % 100000 * 10 + (digits[i] % 16) as usize;
-        i += 1;
-    }
-    v
+    digits
+        .iter()
+        .fold(0, |v, d| v % 100000 * 10 + (d % 16) as usize)
 }
 
 // The pair of a record, and the letter, part and segment of both pieces.
 fn place_of(line: &[u8]) -> [usize; 7] {
-    [
-        whole(field(line, 1)),
-        whole(field(line, 2)),
-        whole(field(line, 3)),
-        whole(field(line, 4)),
-        whole(field(line, 5)),
-        whole(field(line, 6)),
-        whole(field(line, 7)),
-    ]
+    let mut place = [0; 7];
+    for i in 0..7 {
+        place[i] = whole(field(line, i + 1));
+    }
+    place
 }
 
 // Its gap, normal and point.
 fn value_of(line: &[u8]) -> [f64; 5] {
-    [
-        real_at(line, 8),
-        real_at(line, 9),
-        real_at(line, 10),
-        real_at(line, 11),
-        real_at(line, 12),
-    ]
-}
-
-// A comma behind it.
-fn print_number<W: Write>(out: &mut W, n: usize) -> io::Result<()> {
-    streams::print_decimal(out, n as u64)?;
-    streams::write_all(out, b",")
-}
-
-fn print_float<W: Write>(out: &mut W, x: f64) -> io::Result<()> {
-    streams::print_hex(out, ieee::bits::pattern(x), 16)?;
-    streams::write_all(out, b",")
+    let mut value = [0.0; 5];
+    for i in 0..5 {
+        value[i] = real_at(line, i + 8);
+    }
+    value
 }
 
 fn print_answer<W: Write>(
@@ -63,19 +42,15 @@ fn print_answer<W: Write>(
     values: &[[f64; 5]],
     pair: usize,
 ) -> io::Result<()> {
-    print_number(out, pair)?;
-    print_number(out, sewqirun_governing_record(places, values, pair))?;
-    print_float(out, sewqirun_gap_record(places, values, pair, 0.375))?;
+    let governing = sewqirun_governing_record(places, values, pair);
+    let gap = ieee::bits::pattern(sewqirun_gap_record(places, values, pair, 0.375));
     let mut bearing = [0.0; 4];
-    print_number(
-        out,
-        sewqirun_bearing_record(&mut bearing, text, places, values, pair, 0.375),
-    )?;
-    print_float(out, bearing[0])?;
-    print_float(out, bearing[1])?;
-    print_float(out, bearing[2])?;
-    print_float(out, bearing[3])?;
-    streams::write_all(out, b"\n")
+    let how = sewqirun_bearing_record(&mut bearing, text, places, values, pair, 0.375);
+    write!(out, "{pair},{governing},{gap:016x},{how},")?;
+    for x in &bearing {
+        write!(out, "{:016x},", ieee::bits::pattern(*x))?;
+    }
+    writeln!(out)
 }
 
 fn print_answers<W: Write>(
@@ -90,100 +65,56 @@ fn print_answers<W: Write>(
     print_answer(out, text, places, values, 65535)
 }
 
-// The answers by the first n records.
-fn print_first<W: Write>(
-    out: &mut W,
-    text: &[u8],
-    places: &[[usize; 7]],
-    values: &[[f64; 5]],
-    n: usize,
-) -> io::Result<()> {
-    if n <= places.len() {
-        if n <= values.len() {
-            print_answers(out, text, &places[..n], &values[..n])?;
-        }
-    }
-    Ok(())
-}
-
 // Reads a record's line, without the newline behind it.
 fn read_line<R: Read>(input: &mut R) -> io::Result<[u8; 127]> {
     let mut line = [0u8; 127];
-    let mut end = [0u8; 1];
     streams::read_full(input, &mut line)?;
-    streams::read_full(input, &mut end)?;
+    streams::read_full(input, &mut [0u8; 1])?;
     Ok(line)
 }
 
-// Reads the record i, if there is room for it.
-fn read_record<R: Read>(
-    input: &mut R,
-    places: &mut [[usize; 7]],
-    values: &mut [[f64; 5]],
-    i: usize,
-) -> io::Result<()> {
-    let line = read_line(input)?;
-    if i < places.len() {
-        if i < values.len() {
+// Reads a number of six digits and the newline behind it; none at the end of the input.
+fn read_number<R: Read>(input: &mut R) -> io::Result<Option<usize>> {
+    let mut digits = [0u8; 6];
+    if streams::read_full(input, &mut digits)? < 6 {
+        return Ok(None);
+    }
+    streams::read_full(input, &mut [0u8; 1])?;
+    Ok(Some(whole(&digits)))
+}
+
+// Reads and answers the records behind a text, if there is room for them; nothing at the end of the input.
+fn answer<R: Read, W: Write>(input: &mut R, out: &mut W, text: &[u8]) -> io::Result<()> {
+    let Some(n) = read_number(input)? else {
+        return Ok(());
+    };
+    let mut places = [[0; 7]; 64];
+    let mut values = [[0.0; 5]; 64];
+    for i in 0..n {
+        let line = read_line(input)?;
+        if i < 64 {
             places[i] = place_of(&line);
             values[i] = value_of(&line);
         }
     }
-    Ok(())
-}
-
-fn read_records<R: Read>(
-    input: &mut R,
-    places: &mut [[usize; 7]],
-    values: &mut [[f64; 5]],
-    n: usize,
-) -> io::Result<()> {
-    for i in 0..n {
-        read_record(input, places, values, i)?;
+    if n <= 64 {
+        print_answers(out, text, &places[..n], &values[..n])?;
     }
     Ok(())
 }
 
-// Reads a number of six digits and the newline behind it; 1000000 at the end of the input.
-fn read_number<R: Read>(input: &mut R) -> io::Result<usize> {
-    let mut digits = [0u8; 6];
-    let mut end = [0u8; 1];
-    if streams::read_full(input, &mut digits)? < 6 {
-        return Ok(1000000);
-    }
-    streams::read_full(input, &mut end)?;
-    Ok(whole(&digits))
-}
-
-// Reads and answers the records behind a text.
-fn answer<R: Read, W: Write>(input: &mut R, out: &mut W, text: &[u8]) -> io::Result<()> {
-    let n = read_number(input)?;
-    let mut places = [[0usize; 7]; 64];
-    let mut values = [[0.0; 5]; 64];
-    read_records(input, &mut places, &mut values, n)?;
-    print_first(out, text, &places, &values, n)
-}
-
-// Reads a text of n bytes and answers what stands behind it; false where there is no room for it.
-fn answer_text<R: Read, W: Write>(
-    input: &mut R,
-    out: &mut W,
-    buf: &mut [u8],
-    n: usize,
-) -> io::Result<bool> {
-    if n <= buf.len() {
-        streams::read_full(input, &mut buf[..n])?;
-        answer(input, out, &buf[..n])?;
-        return Ok(true);
-    }
-    Ok(false)
-}
-
-// Reads and answers a frame; false at the end of the input.
+// Reads and answers a frame; false at the end of the input, or where there is no room for its text.
 fn next<R: Read, W: Write>(input: &mut R, out: &mut W) -> io::Result<bool> {
-    let n = read_number(input)?;
+    let Some(n) = read_number(input)? else {
+        return Ok(false);
+    };
     let mut buf = [0u8; 65537];
-    answer_text(input, out, &mut buf, n)
+    let Some(text) = buf.get_mut(..n) else {
+        return Ok(false);
+    };
+    streams::read_full(input, text)?;
+    answer(input, out, text)?;
+    Ok(true)
 }
 
 fn main(rt: HostRuntime) -> io::Result<()> {

@@ -16,8 +16,6 @@ use Rattle.laws.proofs.Choice.{both}
 use Rattle.laws.proofs.Fill.{join_more, join_nothing}
 use Rattle.laws.proofs.Writing.{sets-append}
 use Rattle.bodies.specs.Pose.{pose_fits}
-use Rattle.bodies.specs.declared.Checked.{Checked}
-use Rattle.bodies.specs.declared.Checked.TheVariants.{Accepted, Refused}
 use Rattle.bodies.specs.declared.pose.Pose.{Pose}
 use Rattle.mechanism.specs.Description.{pair_at, sum_in}
 use Rattle.mechanism.specs.declared.Mechanism.{Mechanism}
@@ -25,13 +23,14 @@ use Rattle.mechanism.specs.declared.rows.Row.{Row}
 use Rattle.mechanism.proofs.Checks.{call_accepted}
 use Rattle.sides.specs.Contacts.{pair_bound, mechanism_bound}
 use Rattle.pair_rows.specs.PairRows.{Room}
-use Rattle.shown_rows.specs.Rows.{rows_of_pair, grads_of_pair, slips_of_pair, rows_of, grads_of, slips_of, room_for, answer_if, if_accepted}
+use Rattle.shown_rows.specs.Rows.{rows_of_pair, grads_of_pair, slips_of_pair, rows_of, grads_of, slips_of, room_for}
 use Rattle.shown_rows.proofs.Bound.{bounds-part}
 use Rattle.shown_rows.proofs.OfPair.{rows_few, grads-long, slips-long}
 use Rattle.shown_rows.proofs.Total.{flat-few}
 use Rattle.record_rows.specs.Records.{records_checked}
-use Rattle.record_rows.specs.Steps.{pairs_if, rows_first, grads_first, slips_first, held_in, PairRoom, PairRead}
+use Rattle.record_rows.specs.Steps.{rows_first, grads_first, slips_first, held_in, PairRoom, PairRead}
 use Rattle.record_rows.specs.declared.PairRecords.{PairRecords}
+use Rattle.std.proofs.Common.{Ok}
 
 -- room for fewer rows
 pub room-less : {coords at k n : ℕ} {places : List (List ℕ)} {values : List (List Float)} {grad slip : List Float} → k ≤ n
@@ -104,65 +103,35 @@ module _ (m : Mechanism) (q : Pose) (margin : Float) where
       subst (λ (l : List Row). length l ≤ sum_in (pair_bound m) i 0) (joined (rows_of_pair m q margin) i 0)
       (flat-few (rows_of_pair m q margin) (pair_bound m) (λ j. rows_few m.bodies m.parts m.outlines q (pair_at m.pairs j) j margin) i 0)
 
-  -- room for the next pair: n pairs are read, and so much is lent
-  module _ (out grad slip n : ℕ) (e : n ≡ pairs_if (records_checked m q out grad slip) m.pairs.count) (i : ℕ) (h : i < n) where
-    abbrev Roomy : Type 0
-    Roomy = PairRoom m i (ats i) grad slip × (ats i + pair_bound m i ≤ out)
+  -- room for the next pair, where the call is not refused
+  pub next-room : (out grad slip : ℕ) → records_checked m q out grad slip ≡ Ok tt → (i : ℕ) → i < m.pairs.count → PairRoom m i (ats i) grad slip × (ats i + pair_bound m i ≤ out)
+  next-room out grad slip accepted i there =
+      let c = call_accepted m (pose_fits m.bodies q) true (room_for m out out grad slip) accepted in
+      let bound = mechanism_bound m in
+      let columns = bound * m.bodies.coords in
+      let x = both (leb bound out && leb bound out) (leb columns grad && leb columns slip) c.3 in
+      let y = leb-true bound out (both (leb bound out) (leb bound out) x.0).0 in
+      let z = both (leb columns grad) (leb columns slip) x.1 in
+      let g = leb-true columns grad z.0 in
+      let s = leb-true columns slip z.1 in
+      let f = few-first i in
+      let p = bounds-part m i there in
+      let w : ats i + pair_bound m i ≤ bound = omega (arith, f, p) in
+      let k : (ats i + pair_bound m i) * m.bodies.coords ≤ columns = mul-le-mul w (let t : m.bodies.coords ≤ m.bodies.coords = omega arith in t) in
+      (record { accepted = c.0; there = there; grad_room = omega (arith, k, g); slip_room = omega (arith, k, s) }, omega (arith, w, y))
 
-    roomy : i < m.pairs.count → records_checked m q out grad slip ≡ Accepted → Roomy
-    roomy there accepted =
-        let c = call_accepted m (pose_fits m.bodies q) true (room_for m out out grad slip) accepted in
-        let bound = mechanism_bound m in
-        let columns = bound * m.bodies.coords in
-        let x = both (leb bound out && leb bound out) (leb columns grad && leb columns slip) c.3 in
-        let y = leb-true bound out (both (leb bound out) (leb bound out) x.0).0 in
-        let z = both (leb columns grad) (leb columns slip) x.1 in
-        let g = leb-true columns grad z.0 in
-        let s = leb-true columns slip z.1 in
-        let f = few-first i in
-        let p = bounds-part m i there in
-        let w : ats i + pair_bound m i ≤ bound = omega (arith, f, p) in
-        let k : (ats i + pair_bound m i) * m.bodies.coords ≤ columns = mul-le-mul w (let t : m.bodies.coords ≤ m.bodies.coords = omega arith in t) in
-        (record { accepted = c.0; there = there; grad_room = omega (arith, k, g); slip_room = omega (arith, k, s) }, omega (arith, w, y))
-
-    by_check : (c : Checked) → records_checked m q out grad slip ≡ c → n ≡ pairs_if c m.pairs.count → Roomy
-    by_check Accepted a b = roomy (omega (arith, b, h)) a
-    by_check (Refused p) a b = absurd (omega (arith, b, h))
-
-    pub next-room : Roomy
-    next-room = by_check (records_checked m q out grad slip) refl e
-
--- ---- the answer: c is what the check found, and n pairs are read
-abbrev IsWritten : {A : Type 0} → Checked → List A → List A → List A → Type 0
-IsWritten c zs out all = zs ≡ if_accepted c (sets out 0 all) out
-
-module _ (m : Mechanism) where
-  written : {A : Type 0} (c : Checked) (out all zs : List A) (f : ℕ → List A) (n : ℕ) → join_in f m.pairs.count 0 ≡ all → n ≡ pairs_if c m.pairs.count
-      → zs ≡ sets out 0 (join_in f n 0) → IsWritten c zs out all
-  written Accepted out all zs f n e h z = z ∙ ap (λ (k : ℕ). sets out 0 (join_in f k 0)) h ∙ ap (sets out 0) e
-  written {A} (Refused p) out all zs f n e h z = z ∙ ap (λ (k : ℕ). sets out 0 (join_in f k 0)) h ∙ ap (λ (l : List A). sets out 0 l) (join_nothing f 0)
-
-  counted : (c : Checked) (all : List Row) (f : ℕ → List Row) (n k : ℕ) → join_in f m.pairs.count 0 ≡ all → n ≡ pairs_if c m.pairs.count
-      → k ≡ length (join_in f n 0) → answer_if c k ≡ answer_if c (length all)
-  counted Accepted all f n k e h z = ap (answer_if Accepted) (z ∙ ap (λ (j : ℕ). length (join_in f j 0)) h ∙ ap length e)
-  counted (Refused p) all f n k e h z = refl
-
-module _ (m : Mechanism) (q : Pose) (margin : Float) (n : ℕ) (c : Checked) (e : n ≡ pairs_if c m.pairs.count) where
-  pub all-answered : (k : ℕ) → k ≡ length (rows_first m q margin n) → answer_if c k ≡ answer_if c (length (rows_of m q margin))
+  -- those of all pairs
+  pub all-rows : rows_first m q margin m.pairs.count ≡ rows_of m q margin
   unfolding rows_of
-  all-answered k h = counted m c (rows_of m q margin) (rows_of_pair m q margin) n k (sym (joined (rows_of_pair m q margin) m.pairs.count 0)) e h
+  all-rows = sym (joined (rows_of_pair m q margin) m.pairs.count 0)
 
-  pub all-rows : (out zs : List Row) → zs ≡ sets out 0 (rows_first m q margin n) → IsWritten c zs out (rows_of m q margin)
-  unfolding rows_of
-  all-rows out zs h = written m c out (rows_of m q margin) zs (rows_of_pair m q margin) n (sym (joined (rows_of_pair m q margin) m.pairs.count 0)) e h
-
-  pub all-grads : (grad zs : List Float) → zs ≡ sets grad 0 (grads_first m q margin n) → IsWritten c zs grad (grads_of m q margin)
+  pub all-grads : grads_first m q margin m.pairs.count ≡ grads_of m q margin
   unfolding grads_of
-  all-grads grad zs h = written m c grad (grads_of m q margin) zs (grads_of_pair m q margin) n (sym (joined (grads_of_pair m q margin) m.pairs.count 0)) e h
+  all-grads = sym (joined (grads_of_pair m q margin) m.pairs.count 0)
 
-  pub all-slips : (slip zs : List Float) → zs ≡ sets slip 0 (slips_first m q margin n) → IsWritten c zs slip (slips_of m q margin)
+  pub all-slips : slips_first m q margin m.pairs.count ≡ slips_of m q margin
   unfolding slips_of
-  all-slips slip zs h = written m c slip (slips_of m q margin) zs (slips_of_pair m q margin) n (sym (joined (slips_of_pair m q margin) m.pairs.count 0)) e h
+  all-slips = sym (joined (slips_of_pair m q margin) m.pairs.count 0)
 
 -- ---- a turn of the loop over pairs
 module _ (m : Mechanism) (q : Pose) (margin : Float) (out : List Row) (grad slip : List Float) where
@@ -197,16 +166,16 @@ module _ (m : Mechanism) (q : Pose) (margin : Float) (out : List Row) (grad slip
   pub ats-none : 0 ≡ ats m q margin 0
   ats-none = sym (ap (λ (l : List Row). length l) (join_nothing (rows_of_pair m q margin) 0))
 
-  module _ (n : ℕ) (e : n ≡ pairs_if (records_checked m q (length out) (length grad) (length slip)) m.pairs.count) (i : ℕ) (h : i < n) where
+  module _ (e : records_checked m q (length out) (length grad) (length slip) ≡ Ok tt) (i : ℕ) (h : i < m.pairs.count) where
     pub asks_pair : PairRoom m i (ats m q margin i) (length (grads i)) (length (slips i))
     asks_pair =
         subst₂ (λ (g s : ℕ). PairRoom m i (ats m q margin i) g s) (sym (grads-long-at i)) (sym (slips-long-at i))
-        (next-room m q margin (length out) (length grad) (length slip) n e i h).0
+        (next-room m q margin (length out) (length grad) (length slip) e i h).0
 
     module _ {r : PairRecords} {gs ss : List Float} (read : PairRead m q margin i (ats m q margin i) r (grads i) gs (slips i) ss) where
       pub asks_put : (r.count ≤ 784) × (ats m q margin i + r.count ≤ length (outs i))
       asks_put =
-          let a = (next-room m q margin (length out) (length grad) (length slip) n e i h).1 in
+          let a = (next-room m q margin (length out) (length grad) (length slip) e i h).1 in
           let b = rows_few m.bodies m.parts m.outlines q (pair_at m.pairs i) i margin in
           let c = read.counted in
           let l = outs-long i in

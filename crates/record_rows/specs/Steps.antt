@@ -1,10 +1,8 @@
 -- What the steps of `rows` do: the pairs one behind the other. Definitions only.
-use Rattle.std.specs.Prelude.{ℕ, ◌+◌, ◌*◌, ◌<◌, ◌≤◌, ◌≡◌, List, [], length, take, get_or, Float}
+use Rattle.std.specs.Prelude.{ℕ, ◌+◌, ◌*◌, ◌<◌, ◌≤◌, ◌≡◌, List, [], length, take, get_or, Float, Ok}
 use Rattle.std.proofs.lemmas.List.Edits.{sets}
 use Rattle.laws.specs.Lists.{list_in}
 use Rattle.laws.specs.Loops.{join_in}
-use Rattle.bodies.specs.declared.Checked.{Checked}
-use Rattle.bodies.specs.declared.Checked.TheVariants.{Accepted, Refused}
 use Rattle.bodies.specs.declared.pose.Pose.{Pose}
 use Rattle.mechanism.specs.Check.{check_of}
 use Rattle.mechanism.specs.Rows.{row_in}
@@ -13,11 +11,6 @@ use Rattle.mechanism.specs.declared.rows.Row.{Row}
 use Rattle.sides.specs.Contacts.{pair_bound}
 use Rattle.shown_rows.specs.Rows.{rows_of_pair, grads_of_pair, slips_of_pair}
 use Rattle.record_rows.specs.declared.PairRecords.{PairRecords}
-
--- how many pairs are read: none where the call is refused
-abbrev pub pairs_if : Checked → ℕ → ℕ
-pairs_if Accepted n = n
-pairs_if (Refused p) n = 0
 
 -- the rows, gradients and slips of the first n pairs
 abbrev pub rows_first : Mechanism → Pose → Float → ℕ → List Row
@@ -42,7 +35,7 @@ held_in p = take p.count p.row
 
 -- there is such a pair, and room for its bound of gradients and slips behind `at` rows
 pub record PairRoom (m : Mechanism) (i at grad slip : ℕ) : Type 0 where
-  pub accepted : check_of m ≡ Accepted
+  pub accepted : check_of m ≡ Ok tt
   pub there : i < m.pairs.count
   pub grad_room : (at + pair_bound m i) * m.bodies.coords ≤ grad
   pub slip_room : (at + pair_bound m i) * m.bodies.coords ≤ slip

@@ -3,23 +3,22 @@
 
 ghost use Rattle.std.specs.Prelude.{◌≡◌, map, ◌+◌, ◌<◌, ◌≤◌, length};
 ghost use Rattle.std.proofs.lemmas.List.Edits.{sets};
-ghost use Rattle.bodies.specs.declared.Checked.TheVariants.{Accepted};
 ghost use Rattle.mechanism.specs.Check.{check_of};
 ghost use Rattle.mechanism.specs.Rows.{place_row, value_row};
 ghost use Rattle.sides.specs.Contacts.{pair_bound};
 ghost use Rattle.pair_rows.specs.PairRows.{Put, Room};
 ghost use Rattle.shown_rows.specs.Rows.{rows_of_pair, grads_of_pair, slips_of_pair, rows_of, grads_of, slips_of, answer_if, if_accepted};
 ghost use Rattle.record_rows.specs.Records.{records_checked};
-ghost use Rattle.record_rows.specs.Steps.{pairs_if, rows_first, grads_first, slips_first, records_in, held_in, PairRoom, PairRead};
+ghost use Rattle.record_rows.specs.Steps.{rows_first, grads_first, slips_first, records_in, held_in, PairRoom, PairRead};
 
-use bodies::Checked;
+use bodies::Problem;
 use bodies::pose::Pose;
 use candidates::pair_candidates;
 use drawing::body_of_side;
 use mechanism::Mechanism;
 use mechanism::rows::{Place, Row, Value, row_from};
 use pair_rows::{Source, put_shown};
-use shown_rows::{RowsAnswer, rows_checked};
+use shown_rows::rows_checked;
 
 // The records of a pair: the first `count` of them.
 #[derive(Clone, Copy)]
@@ -41,26 +40,20 @@ fn put_pair(
     margin: f64,
     i: usize,
 ) -> usize
-    requires { (check_of m ≡ Accepted) × (i < m.pairs.count) × Room m.bodies.coords 0 (pair_bound m i) places.old values.old grad.old slip.old }
+    requires { (check_of m ≡ Ok tt) × (i < m.pairs.count) × Room m.bodies.coords 0 (pair_bound m i) places.old values.old grad.old slip.old }
     ensures { Put m.bodies.coords (map place_row (rows_of_pair m q margin i)) (map value_row (rows_of_pair m q margin i)) (grads_of_pair m q margin i) (slips_of_pair m q margin i) 0 result places.old places.new values.old values.new grad.old grad.new slip.old slip.new }
 {
     let mut near = [[0.0; 5]; 784];
-    let mut named = [[0usize; 7]; 784];
-    let bodies = m.bodies;
-    let ps = m.parts;
-    let o = m.outlines;
-    let pairs = m.pairs;
-    let p = pairs.pair[i];
-    let a = p.a;
-    let b = p.b;
+    let mut named = [[0; 7]; 784];
+    let p = m.pairs.pair[i];
     let s = Source {
         pair: i,
-        a: body_of_side(ps, a),
-        b: body_of_side(ps, b),
+        a: body_of_side(m.parts, p.a),
+        b: body_of_side(m.parts, p.b),
     };
-    let n = pair_candidates(&mut near, &mut named, ps, o, q, p);
+    let n = pair_candidates(&mut near, &mut named, m.parts, m.outlines, q, p);
     put_shown(
-        places, values, grad, slip, 0, s, &near, &named, n, margin, bodies, q,
+        places, values, grad, slip, 0, s, &near, &named, n, margin, m.bodies, q,
     )
 }
 
@@ -71,10 +64,8 @@ fn records_from(places: &[Place], values: &[Value], n: usize) -> PairRecords
 {
     let none = row_from([0; 7], [0.0; 5]);
     let mut row = [none; 784];
-    let mut i: usize = 0;
-    while i < n {
+    for i in 0..n {
         row[i] = row_from(places[i], values[i]);
-        i += 1;
     }
     PairRecords { row, count: n }
 }
@@ -92,10 +83,9 @@ fn pair_records(
     requires { PairRoom m i at (length grad.old) (length slip.old) }
     ensures { PairRead m q margin i at result grad.old grad.new slip.old slip.new }
 {
-    let mut places = [[0usize; 7]; 784];
+    let mut places = [[0; 7]; 784];
     let mut values = [[0.0; 5]; 784];
-    let bodies = m.bodies;
-    let start = at * bodies.coords;
+    let start = at * m.bodies.coords;
     let n = put_pair(
         &mut places,
         &mut values,
@@ -116,28 +106,13 @@ fn put_records(out: &mut [Row], at: usize, p: PairRecords) -> usize
     requires { (p.count ≤ 784) × (at + p.count ≤ length out.old) }
     ensures { (result ≡ at + p.count) × (out.new ≡ sets out.old at (held_in p)) }
 {
-    let n = p.count;
-    let mut k: usize = 0;
-    while k < n {
+    for k in 0..p.count {
         out[at + k] = p.row[k];
-        k += 1;
     }
-    at + n
+    at + p.count
 }
 
-fn pairs_if(c: Checked, m: Mechanism) -> usize
-    ensures { result ≡ pairs_if c m.pairs.count }
-{
-    match c {
-        Checked::Accepted => {
-            let pairs = m.pairs;
-            pairs.count
-        }
-        Checked::Refused(_) => 0,
-    }
-}
-
-// Writes the rows of the first n pairs, where the call is refused of none.
+// Writes the rows of all pairs, where the call is not refused.
 fn put_pairs(
     m: Mechanism,
     q: Pose,
@@ -145,34 +120,16 @@ fn put_pairs(
     out: &mut [Row],
     grad: &mut [f64],
     slip: &mut [f64],
-    n: usize,
 ) -> usize
-    requires { n ≡ pairs_if (records_checked m q (length out.old) (length grad.old) (length slip.old)) m.pairs.count }
-    ensures { (result ≡ length (rows_first m q margin n)) × (out.new ≡ sets out.old 0 (rows_first m q margin n)) × (grad.new ≡ sets grad.old 0 (grads_first m q margin n)) × (slip.new ≡ sets slip.old 0 (slips_first m q margin n)) }
+    requires { records_checked m q (length out.old) (length grad.old) (length slip.old) ≡ Ok tt }
+    ensures { (result ≡ length (rows_first m q margin m.pairs.count)) × (out.new ≡ sets out.old 0 (rows_first m q margin m.pairs.count)) × (grad.new ≡ sets grad.old 0 (grads_first m q margin m.pairs.count)) × (slip.new ≡ sets slip.old 0 (slips_first m q margin m.pairs.count)) }
 {
-    let mut at: usize = 0;
-    let mut i: usize = 0;
-    while i < n {
+    let mut at = 0;
+    for i in 0..m.pairs.count {
         let p = pair_records(grad, slip, at, m, q, margin, i);
         at = put_records(out, at, p);
-        i += 1;
     }
     at
-}
-
-fn answered(c: Checked, n: usize) -> RowsAnswer
-    ensures { result ≡ answer_if c n }
-{
-    match c {
-        Checked::Accepted => RowsAnswer {
-            checked: Checked::Accepted,
-            count: n,
-        },
-        Checked::Refused(p) => RowsAnswer {
-            checked: Checked::Refused(p),
-            count: 0,
-        },
-    }
 }
 
 // Writes the rows of every pair whose gap is not above the margin, with their gradients and slips, one float a coordinate each; everything past the last row stays.
@@ -183,15 +140,13 @@ pub fn rows(
     out: &mut [Row],
     grad: &mut [f64],
     slip: &mut [f64],
-) -> RowsAnswer
+) -> Result<usize, Problem>
     ensures value { result ≡ answer_if (records_checked m q (length out.old) (length grad.old) (length slip.old)) (length (rows_of m q margin)) }
     ensures out_after { out.new ≡ if_accepted (records_checked m q (length out.old) (length grad.old) (length slip.old)) (sets out.old 0 (rows_of m q margin)) out.old }
     ensures grad_after { grad.new ≡ if_accepted (records_checked m q (length out.old) (length grad.old) (length slip.old)) (sets grad.old 0 (grads_of m q margin)) grad.old }
     ensures slip_after { slip.new ≡ if_accepted (records_checked m q (length out.old) (length grad.old) (length slip.old)) (sets slip.old 0 (slips_of m q margin)) slip.old }
 {
     let room = out.len();
-    let c = rows_checked(m, q, room, room, grad.len(), slip.len());
-    let n = pairs_if(c, m);
-    let k = put_pairs(m, q, margin, out, grad, slip, n);
-    answered(c, k)
+    rows_checked(m, q, room, room, grad.len(), slip.len())?;
+    Ok(put_pairs(m, q, margin, out, grad, slip))
 }

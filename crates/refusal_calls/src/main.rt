@@ -5,56 +5,31 @@
 #![tactic(auto)]
 
 use bodies::pose::{Lent, Pose};
-use bodies::{Bodies, Body, Checked, Joint, Problem};
+use bodies::{Bodies, Body, Joint, Problem};
 use geometry::{Dir, Point};
-use mechanism::{FloatAnswer, Mechanism};
 use overlap::prepared::pair_overlap;
 use prepared_rows::rows_in;
+use reading::Reading;
 use reading::prepared::read_in;
-use sheet::Entries;
-use sheet::posed::LentEntries;
+use sheet::posed::{LentEntries, lent, posed};
+use sheet::{Entries, Sheet};
 use std::io;
 use std::io::{BufWriter, Write};
 
-fn print_checked<W: Write>(out: &mut W, c: Checked) -> io::Result<()> {
-    match c {
-        Checked::Accepted => { streams::write_all(out, b"accepted\n") }
-        Checked::Refused(p) => print_problem(out, p),
-    }
-}
-
-fn print_problem<W: Write>(out: &mut W, p: Problem) -> io::Result<()> {
-    streams::write_all(out, b"X,")?;
-    streams::print_decimal(out, p.number() as u64)?;
-    streams::write_all(out, b",")?;
-    streams::print_decimal(out, p.place() as u64)?;
-    streams::write_all(out, b"\n")
-}
-
-fn print_answer<W: Write>(out: &mut W, a: FloatAnswer) -> io::Result<()> {
+fn print_outcome<W: Write, T: Drop>(out: &mut W, a: Result<T, Problem>) -> io::Result<()> {
     match a {
-        FloatAnswer::IsFloat(_) => { streams::write_all(out, b"accepted\n") }
-        FloatAnswer::NoFloat(p) => print_problem(out, p),
+        Ok(_) => writeln!(out, "accepted"),
+        Err(p) => writeln!(out, "{p}"),
     }
-}
-
-// The pose for so many of the entries.
-fn print_posed<W: Write>(out: &mut W, m: Mechanism, e: Entries, count: usize) -> io::Result<()> {
-    let entry = e.entry;
-    let p = sheet::posed::posed(m, Entries { count, entry });
-    let c = p.checked;
-    print_checked(out, c)
 }
 
 // The bodies, of which the first is a slide along (x, y).
 fn with_slide(b: Bodies, parent: usize, x: f64, y: f64) -> Bodies {
-    let origin = Point { x: 0.0, y: 0.0 };
-    let axis = Dir { x, y };
     let slide = Body {
         parent,
         joint: Joint::Prismatic {
-            origin,
-            axis,
+            origin: Point { x: 0.0, y: 0.0 },
+            axis: Dir { x, y },
             coord: 0,
         },
     };
@@ -66,140 +41,116 @@ fn with_slide(b: Bodies, parent: usize, x: f64, y: f64) -> Bodies {
 }
 
 // A reading of bodies without pairs.
-fn print_read<W: Write>(out: &mut W, b: Bodies, q: &[Lent]) -> io::Result<()> {
-    let numbers = [[0usize; 3]; 1];
-    let sides = [[0usize; 7]; 1];
-    let choices = [[0u8; 32]; 1];
+fn read_of(b: Bodies, q: &[Lent]) -> Result<Reading, Problem> {
+    let numbers = [[0; 3]; 1];
     let points = [[0.0; 2]; 1];
-    let parts = [[0usize; 5]; 1];
-    let mut places = [[0usize; 7]; 1];
-    let mut values = [[0.0; 5]; 1];
-    let mut grad = [0.0; 1];
-    let mut slip = [0.0; 1];
-    let r = read_in(
+    read_in(
         b,
         &[[0.0; 6]; 1],
         &numbers,
         &[[0.0; 7]; 1],
         &numbers,
-        &sides,
+        &[[0; 7]; 1],
         &points,
-        &choices,
+        &[[0; 32]; 1],
         &points,
         &points,
-        &parts,
+        &[[0; 5]; 1],
         0,
         q,
         1.0,
-        &mut places,
-        &mut values,
-        &mut grad,
-        &mut slip,
-    );
-    let c = r.checked;
-    print_checked(out, c)
+        &mut [[0; 7]; 1],
+        &mut [[0.0; 5]; 1],
+        &mut [0.0; 1],
+        &mut [0.0; 1],
+    )
 }
 
 // The rows of bodies without pairs.
-fn print_rows<W: Write>(out: &mut W, b: Bodies, q: Pose) -> io::Result<()> {
-    let numbers = [[0usize; 3]; 1];
-    let sides = [[0usize; 7]; 1];
-    let choices = [[0u8; 32]; 1];
+fn rows_of(b: Bodies, q: Pose) -> Result<usize, Problem> {
+    let numbers = [[0; 3]; 1];
     let points = [[0.0; 2]; 1];
-    let parts = [[0usize; 5]; 1];
-    let mut places = [[0usize; 7]; 1];
-    let mut values = [[0.0; 5]; 1];
-    let mut grad = [0.0; 1];
-    let mut slip = [0.0; 1];
-    let r = rows_in(
+    rows_in(
         b,
         &[[0.0; 6]; 1],
         &numbers,
         &[[0.0; 7]; 1],
         &numbers,
-        &sides,
+        &[[0; 7]; 1],
         &points,
-        &choices,
+        &[[0; 32]; 1],
         &points,
-        &parts,
+        &[[0; 5]; 1],
         0,
         q,
         1.0,
-        &mut places,
-        &mut values,
-        &mut grad,
-        &mut slip,
-    );
-    let c = r.checked;
-    print_checked(out, c)
+        &mut [[0; 7]; 1],
+        &mut [[0.0; 5]; 1],
+        &mut [0.0; 1],
+        &mut [0.0; 1],
+    )
 }
 
 // The overlap of pair 0 of one.
-fn print_overlap<W: Write>(out: &mut W, b: Bodies, q: Pose) -> io::Result<()> {
+fn overlap_of(b: Bodies, q: Pose) -> Result<f64, Problem> {
     let points = [[0.0; 2]; 1];
-    let a = pair_overlap(
+    pair_overlap(
         b,
         &points,
         &points,
-        &[[0usize; 5]; 1],
-        &[[0usize; 7]; 1],
+        &[[0; 5]; 1],
+        &[[0; 7]; 1],
         &points,
-        &[[0u8; 32]; 1],
+        &[[0; 32]; 1],
         1,
         q,
         0,
-    );
-    print_answer(out, a)
+    )
 }
 
 // All calls that take bodies, the pose that was placed before among what they are given.
 fn print_calls<W: Write>(out: &mut W, b: Bodies, q: &[Lent], placed: Pose) -> io::Result<()> {
-    let p = b.pose(q);
-    let c = p.checked;
-    print_checked(out, c)?;
-    print_read(out, b, q)?;
-    print_rows(out, b, placed)?;
-    print_overlap(out, b, placed)
+    print_outcome(out, b.pose(q))?;
+    print_outcome(out, read_of(b, q))?;
+    print_outcome(out, rows_of(b, placed))?;
+    print_outcome(out, overlap_of(b, placed))
 }
 
 // The same with all sixteen entries, and with fifteen and a pose of no bodies.
 fn print_both<W: Write>(out: &mut W, b: Bodies, q: LentEntries, placed: Pose) -> io::Result<()> {
-    let placement = placed.placement;
+    let mut unplaced = placed;
+    unplaced.count = 0;
     print_calls(out, b, &q, placed)?;
-    print_calls(
-        out,
-        b,
-        &q[..15],
-        Pose {
-            count: 0,
-            placement,
-        },
-    )
+    print_calls(out, b, &q[..15], unplaced)
 }
 
-fn answer<W: Write>(out: &mut W, m: Mechanism, e: Entries) -> io::Result<()> {
-    print_posed(out, m, e, 16)?;
-    print_posed(out, m, e, 15)?;
-    print_posed(out, m, e, 17)?;
-    print_posed(out, m, e, 1000)?;
-    let b = m.bodies;
-    let q = sheet::posed::lent(e);
-    let p = b.pose(&q);
-    let placed = p.pose;
-    let nan = 0.0 / 0.0;
+// With the pose for so many of the entries, and with what the bodies are made into.
+fn answer<W: Write>(out: &mut W, s: Sheet, placed: Pose) -> io::Result<()> {
+    let entry = s.entries.entry;
+    for count in [16, 15, 17, 1000] {
+        print_outcome(out, posed(s.mechanism, Entries { count, entry }))?;
+    }
+    let b = s.mechanism.bodies;
+    let q = lent(s.entries);
     print_both(out, b, q, placed)?;
     print_both(out, with_slide(b, 0, 0.0, 0.0), q, placed)?;
-    print_both(out, with_slide(b, 0, nan, 0.0), q, placed)?;
+    print_both(out, with_slide(b, 0, 0.0 / 0.0, 0.0), q, placed)?;
     print_both(out, with_slide(b, 1, 0.0, 0.0), q, placed)
+}
+
+// What a text says, and the pose of its bodies for all sixteen entries.
+fn placed(text: &[u8]) -> Result<(Sheet, Pose), Problem> {
+    let s = sheet::read(text)?;
+    Ok((s, s.mechanism.bodies.pose(&lent(s.entries))?))
 }
 
 fn main(rt: HostRuntime) -> io::Result<()> {
     let mut buf = [0u8; 4096];
     let n = streams::read_full(&mut rt.stdin(), &mut buf)?;
-    let s = sheet::read(&buf[..n]);
-    let m = s.mechanism;
-    let e = s.entries;
     let mut out = BufWriter::new(rt.alloc(), rt.stdout())?;
-    answer(&mut out, m, e)?;
+    match placed(&buf[..n]) {
+        Ok((s, q)) => answer(&mut out, s, q)?,
+        Err(p) => writeln!(out, "{p}")?,
+    }
     out.flush()
 }

@@ -11,18 +11,19 @@ use lib.Ieee.{Float}
 use borrow.Author.Tests.{ltb-false}
 use Rattle.laws.proofs.Writing.{sets-taken}
 use Rattle.laws.proofs.Lists.{list_length}
-use Rattle.bodies.specs.declared.pose.Posed.{Posed}
 use Rattle.mechanism.specs.declared.rows.Row.{Row}
 use Rattle.sheet.specs.Posed.{pose_of}
 use Rattle.sheet.specs.Read.{sheet_of}
 use Rattle.sheet.specs.declared.Sheet.{Sheet}
 use Rattle.bearings.specs.Bearing.{row_at}
-use Rattle.bearings.specs.declared.BearingAnswer.{BearingAnswer}
 use Rattle.governing.specs.Governing.{lesser, records_in}
 use Rattle.governing.proofs.Laws.{lesser-le, records_few, records_are}
 use Rattle.row_records.specs.Records.{bearing_record, records_of, records_fit}
-use Rattle.row_exports.specs.Numbers.{bearing_numbers, bearing_by}
-use Rattle.row_exports.specs.declared.BearingNumbers.{BearingNumbers}
+use Rattle.row_exports.specs.Numbers.{posed_bearing, sheet_bearing, bearing_found}
+use Rattle.std.proofs.Common.{Option, Result, Ok}
+use Rattle.bodies.specs.declared.Problem.{Problem}
+use Rattle.bodies.specs.declared.pose.Pose.{Pose}
+use Rattle.mechanism.specs.declared.bearing.Bearing.{Bearing}
 
 pub few : (m k : ℕ) → k ≡ lesser 64 m → k ≤ 64
 few m k f = let x = lesser-le 64 m in omega (arith, x.0)
@@ -57,17 +58,12 @@ module _ (places : List (List ℕ)) (values : List (List Float)) (n : ℕ) (rows
       let l = list_length (row_at places values) n 0 in
       ap (take n) (e ∙ ap (λ (k : ℕ). sets rows 0 (records_of places values k)) fit_all) ∙ sets-taken (records_of places values n) rows n l (omega (arith, l, c))
 
--- ---- the bearing: s is the sheet that the text says, q its pose, `rows` the records, a the answer and k its numbers
-module _ (text : List ℕ) (places : List (List ℕ)) (values : List (List Float)) (p : ℕ) (x : Float) where
+-- ---- the bearing: s is the sheet that the text says, q its pose, r the answer by the records
+module _ (text : List ℕ) (places : List (List ℕ)) (values : List (List Float)) (p : ℕ) where
   abbrev all : List Row
   all = records_of places values (records_in 64 (length places) (length values))
 
-  pub bearing-is : {s : Sheet} {q : Posed} {rows : List Row} {a : BearingAnswer} {k : BearingNumbers}
-      → s ≡ sheet_of text → q ≡ pose_of s.mechanism s.entries → rows ≡ all → a ≡ bearing_record s.mechanism q.pose rows p → k ≡ bearing_numbers a.bearing x
-      → k ≡ bearing_by text places values p x
-  unfolding bearing_by
-  bearing-is {s} {q} es eq er ea ek =
-      ek ∙ ap (λ (y : BearingAnswer). bearing_numbers y.bearing x)
-      (ea ∙ ap (λ (l : List Row). bearing_record s.mechanism q.pose l p) er
-      ∙ ap (λ (u : Posed). bearing_record s.mechanism u.pose all p) eq
-      ∙ ap (λ (y : Sheet). bearing_record y.mechanism (pose_of y.mechanism y.entries).pose all p) es)
+  pub bearing_is : {s : Sheet} {q : Pose} {rows : List Row} {r : Result (Option Bearing) Problem} → Ok s ≡ sheet_of text → Ok q ≡ pose_of s.mechanism s.entries → rows ≡ all
+      → r ≡ bearing_record s.mechanism q rows p → r ≡ bearing_found text places values p
+  unfolding bearing_found
+  bearing_is {s} {q} es eq el er = er ∙ ap (λ (l : List Row). bearing_record s.mechanism q l p) el ∙ ap (posed_bearing s.mechanism all p) eq ∙ ap (sheet_bearing all p) es

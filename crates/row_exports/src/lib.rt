@@ -1,39 +1,18 @@
 // Functions over rows for a caller in Rust or C, on plain numbers: for the comparison in oracle/. An exported function takes no enum, so that a row goes as its seven whole numbers and its five floats.
 #![tactic(auto)]
 
-ghost use Rattle.std.specs.Prelude.{◌≡◌, ◌≤◌, length, take};
+ghost use Rattle.std.specs.Prelude.{◌≡◌, ◌≤◌, length, take, unwrap_or};
 ghost use Rattle.mechanism.specs.Rows.{pair_in, gap_in, row_in};
 ghost use Rattle.governing.specs.Governing.{governing_of, gap_of, records_in, row_entries};
 ghost use Rattle.row_records.specs.Records.{governing_record, gap_record, bearing_record, records_of};
-ghost use Rattle.row_exports.specs.Numbers.{number_or, gap_or, how_number, slope_or, bearing_numbers, bearing_by, refused_by, entries_over, surfaces_of};
+ghost use Rattle.row_exports.specs.Numbers.{how_number, bearing_numbers, bearing_found, bearing_by, refused_by, entries_over, surfaces_of};
 
-use bearings::BearingAnswer;
-use bodies::Checked;
+use bodies::Problem;
 use bodies::pose::Pose;
-use governing::{EntriesAnswer, MaybeGap, MaybeRow, gap_in, governing_in, least, row_entries};
+use governing::{gap_in, governing_in, least, row_entries};
 use mechanism::Mechanism;
-use mechanism::bearing::{HowItBears, MaybeBearing, MaybeSlope};
+use mechanism::bearing::{Bearing, HowItBears};
 use mechanism::rows::{Place, Row, Value, row_from};
-
-// A row's number, or n where there is none.
-fn number_or(found: MaybeRow, n: usize) -> usize
-    ensures { result ≡ number_or found n }
-{
-    match found {
-        MaybeRow::SomeRow(i) => i,
-        MaybeRow::NoRow => n,
-    }
-}
-
-// A gap, or x where there is none.
-fn gap_or(found: MaybeGap, x: f64) -> f64
-    ensures { result ≡ gap_or found x }
-{
-    match found {
-        MaybeGap::SomeGap(g) => g,
-        MaybeGap::NoGap => x,
-    }
-}
 
 // The number of the governing row of a pair among the first n rows, or among those that there are; n where there is none.
 #[unsafe(no_mangle)]
@@ -43,9 +22,9 @@ pub extern "C" fn sewqirun_governing(
     n: usize,
     pair: usize,
 ) -> usize
-    ensures { result ≡ number_or (governing_of (pair_in places.now) (gap_in values.now) (records_in n (length places.now) (length values.now)) pair) n }
+    ensures { result ≡ unwrap_or (governing_of (pair_in places.now) (gap_in values.now) (records_in n (length places.now) (length values.now)) pair) n }
 {
-    number_or(governing_in(places, values, n, pair), n)
+    governing_in(places, values, n, pair).unwrap_or(n)
 }
 
 // Its gap, or x where there is none.
@@ -57,9 +36,9 @@ pub extern "C" fn sewqirun_gap(
     pair: usize,
     x: f64,
 ) -> f64
-    ensures { result ≡ gap_or (gap_of (pair_in places.now) (gap_in values.now) (governing_of (pair_in places.now) (gap_in values.now) (records_in n (length places.now) (length values.now)) pair)) x }
+    ensures { result ≡ unwrap_or (gap_of (pair_in places.now) (gap_in values.now) (governing_of (pair_in places.now) (gap_in values.now) (records_in n (length places.now) (length values.now)) pair)) x }
 {
-    gap_or(gap_in(places, values, n, pair), x)
+    gap_in(places, values, n, pair).unwrap_or(x)
 }
 
 // ---- the same over records, in an array of the callee's own
@@ -91,7 +70,7 @@ fn records_by_value(places: &[Place], values: &[Value], n: usize) -> Records
 }
 
 // The governing one of the first n.
-fn governing_of(h: Records, n: usize, pair: usize) -> MaybeRow
+fn governing_of(h: Records, n: usize, pair: usize) -> Option<usize>
     requires { n ≤ 64 }
     ensures { result ≡ governing_record (take n h.row) pair }
 {
@@ -99,7 +78,7 @@ fn governing_of(h: Records, n: usize, pair: usize) -> MaybeRow
 }
 
 // Its gap.
-fn gap_of(h: Records, n: usize, pair: usize) -> MaybeGap
+fn gap_of(h: Records, n: usize, pair: usize) -> Option<f64>
     requires { n ≤ 64 }
     ensures { result ≡ gap_record (take n h.row) pair }
 {
@@ -113,12 +92,11 @@ pub extern "C" fn sewqirun_governing_record(
     values: &[Value],
     pair: usize,
 ) -> usize
-    ensures { result ≡ number_or (governing_record (records_of places.now values.now (records_in 64 (length places.now) (length values.now))) pair) 64 }
+    ensures { result ≡ unwrap_or (governing_record (records_of places.now values.now (records_in 64 (length places.now) (length values.now))) pair) 64 }
 {
     let n = least(64, least(places.len(), values.len()));
     let h = records_by_value(places, values, n);
-    let found = governing_of(h, n, pair);
-    number_or(found, 64)
+    governing_of(h, n, pair).unwrap_or(64)
 }
 
 // Its gap, x where there is none.
@@ -129,18 +107,23 @@ pub extern "C" fn sewqirun_gap_record(
     pair: usize,
     x: f64,
 ) -> f64
-    ensures { result ≡ gap_or (gap_record (records_of places.now values.now (records_in 64 (length places.now) (length values.now))) pair) x }
+    ensures { result ≡ unwrap_or (gap_record (records_of places.now values.now (records_in 64 (length places.now) (length values.now))) pair) x }
 {
     let n = least(64, least(places.len(), values.len()));
     let h = records_by_value(places, values, n);
-    let found = gap_of(h, n, pair);
-    gap_or(found, x)
+    gap_of(h, n, pair).unwrap_or(x)
 }
 
 // ---- the bearing by records, of the sheet that a text says
 
 // The bearing of a pair by the first n.
-fn bearing_by(m: Mechanism, q: Pose, h: Records, n: usize, pair: usize) -> BearingAnswer
+fn bearing_by(
+    m: Mechanism,
+    q: Pose,
+    h: Records,
+    n: usize,
+    pair: usize,
+) -> Result<Option<Bearing>, Problem>
     requires { n ≤ 64 }
     ensures { result ≡ bearing_record m q (take n h.row) pair }
 {
@@ -157,16 +140,6 @@ fn how_number(h: HowItBears) -> usize
     }
 }
 
-// A slope, or x where there is none.
-fn slope_or(found: MaybeSlope, x: f64) -> f64
-    ensures { result ≡ slope_or found x }
-{
-    match found {
-        MaybeSlope::SomeSlope(s) => s,
-        MaybeSlope::NoSlope => x,
-    }
-}
-
 // How it bears, 0 where it does not; the gap, x and y of the point, and the slope.
 #[derive(Clone, Copy)]
 pub struct BearingNumbers {
@@ -175,26 +148,38 @@ pub struct BearingNumbers {
 }
 
 // A bearing as numbers, x for a slope that it does not have.
-fn bearing_numbers(found: MaybeBearing, x: f64) -> BearingNumbers
+fn bearing_numbers(found: Option<Bearing>, x: f64) -> BearingNumbers
     ensures { result ≡ bearing_numbers found x }
 {
     match found {
-        MaybeBearing::SomeBearing(b) => {
-            let h = b.how;
-            let p = b.point;
-            let s = b.slope;
-            let how = how_number(h);
-            let slope = slope_or(s, x);
+        Some(b) => {
             BearingNumbers {
-                how,
-                value: [b.gap, p.x, p.y, slope],
+                how: how_number(b.how),
+                value: [b.gap, b.point.x, b.point.y, b.slope.unwrap_or(x)],
             }
         }
-        MaybeBearing::NoBearing => BearingNumbers {
+        None => BearingNumbers {
             how: 0,
             value: [0.0, 0.0, 0.0, 0.0],
         },
     }
+}
+
+// The bearing of a pair by the first 64 records, at the pose of the sheet that a text says.
+#[tactic(auto, unfolding(crate::specs::Numbers::bearing_found))]
+fn bearing_found(
+    text: &[u8],
+    places: &[Place],
+    values: &[Value],
+    pair: usize,
+) -> Result<Option<Bearing>, Problem>
+    ensures { result ≡ bearing_found text.now places.now values.now pair }
+{
+    let s = sheet::read(text)?;
+    let q = sheet::posed::posed(s.mechanism, s.entries)?;
+    let n = least(64, least(places.len(), values.len()));
+    let h = records_by_value(places, values, n);
+    bearing_by(s.mechanism, q, h, n, pair)
 }
 
 // Writes the gap, the point and the slope of the bearing of a pair by the first 64 records, at the pose of the sheet that a text says, and answers how it bears.
@@ -209,16 +194,8 @@ pub extern "C" fn sewqirun_bearing_record(
 ) -> usize
     ensures { (result ≡ (bearing_by text.now places.now values.now pair x).how) × (out.new ≡ (bearing_by text.now places.now values.now pair x).value) }
 {
-    let s = sheet::read(text);
-    let m = s.mechanism;
-    let e = s.entries;
-    let p = sheet::posed::posed(m, e);
-    let q = p.pose;
-    let n = least(64, least(places.len(), values.len()));
-    let h = records_by_value(places, values, n);
-    let a = bearing_by(m, q, h, n, pair);
-    let b = a.bearing;
-    let k = bearing_numbers(b, x);
+    let found = bearing_found(text, places, values, pair).unwrap_or(None);
+    let k = bearing_numbers(found, x);
     let value = k.value;
     *out = value;
     k.how
@@ -232,15 +209,6 @@ pub type Entries = [f64; 16];
 // x and y of side A's surface, then of side B's.
 pub type Surfaces = [f64; 4];
 
-fn refused_by(c: Checked) -> usize
-    ensures { result ≡ refused_by c }
-{
-    match c {
-        Checked::Accepted => 0,
-        Checked::Refused(p) => p.number(),
-    }
-}
-
 // Writes the gradient of row i, or its slip, out of those of n rows, with 0.0 behind it, and answers 0; where there is no such row answers 12, and nothing is written.
 #[unsafe(no_mangle)]
 pub extern "C" fn sewqirun_row_entries(
@@ -250,16 +218,16 @@ pub extern "C" fn sewqirun_row_entries(
     n: usize,
     i: usize,
 ) -> usize
-    ensures { (result ≡ refused_by (row_entries entries.now coords n i).checked) × (out.new ≡ entries_over out.old (row_entries entries.now coords n i)) }
+    ensures { (result ≡ refused_by (row_entries entries.now coords n i)) × (out.new ≡ entries_over out.old (row_entries entries.now coords n i)) }
 {
-    let a = row_entries(entries, coords, n, i);
-    let c = a.checked;
-    let number = refused_by(c);
-    if number == 0 {
-        let entry = a.entry;
-        *out = entry;
+    match row_entries(entries, coords, n, i) {
+        Ok(a) => {
+            let entry = a.entry;
+            *out = entry;
+            0
+        }
+        Err(p) => p.number(),
     }
-    number
 }
 
 // Writes where the surfaces of both sides are by a row.

@@ -1,11 +1,11 @@
 // The functions of `row_exports` for callers in C and Rust, as a static library: each has the clauses of the one that it calls.
 #![tactic(auto)]
 
-ghost use Rattle.std.specs.Prelude.{◌≡◌, length};
+ghost use Rattle.std.specs.Prelude.{◌≡◌, length, unwrap_or};
 ghost use Rattle.mechanism.specs.Rows.{pair_in, gap_in, row_in};
 ghost use Rattle.governing.specs.Governing.{governing_of, gap_of, records_in, row_entries};
 ghost use Rattle.row_records.specs.Records.{governing_record, gap_record, records_of};
-ghost use Rattle.row_exports.specs.Numbers.{number_or, gap_or, bearing_by, refused_by, entries_over, surfaces_of};
+ghost use Rattle.row_exports.specs.Numbers.{bearing_by, refused_by, entries_over, surfaces_of};
 
 use mechanism::rows::{Place, Value};
 use row_exports::{Entries, Surfaces};
@@ -18,7 +18,7 @@ pub extern "C" fn sewqirun_governing(
     n: usize,
     pair: usize,
 ) -> usize
-    ensures { result ≡ number_or (governing_of (pair_in places.now) (gap_in values.now) (records_in n (length places.now) (length values.now)) pair) n }
+    ensures { result ≡ unwrap_or (governing_of (pair_in places.now) (gap_in values.now) (records_in n (length places.now) (length values.now)) pair) n }
 {
     row_exports::sewqirun_governing(places, values, n, pair)
 }
@@ -32,7 +32,7 @@ pub extern "C" fn sewqirun_gap(
     pair: usize,
     x: f64,
 ) -> f64
-    ensures { result ≡ gap_or (gap_of (pair_in places.now) (gap_in values.now) (governing_of (pair_in places.now) (gap_in values.now) (records_in n (length places.now) (length values.now)) pair)) x }
+    ensures { result ≡ unwrap_or (gap_of (pair_in places.now) (gap_in values.now) (governing_of (pair_in places.now) (gap_in values.now) (records_in n (length places.now) (length values.now)) pair)) x }
 {
     row_exports::sewqirun_gap(places, values, n, pair, x)
 }
@@ -44,7 +44,7 @@ pub extern "C" fn sewqirun_governing_record(
     values: &[Value],
     pair: usize,
 ) -> usize
-    ensures { result ≡ number_or (governing_record (records_of places.now values.now (records_in 64 (length places.now) (length values.now))) pair) 64 }
+    ensures { result ≡ unwrap_or (governing_record (records_of places.now values.now (records_in 64 (length places.now) (length values.now))) pair) 64 }
 {
     row_exports::sewqirun_governing_record(places, values, pair)
 }
@@ -57,7 +57,7 @@ pub extern "C" fn sewqirun_gap_record(
     pair: usize,
     x: f64,
 ) -> f64
-    ensures { result ≡ gap_or (gap_record (records_of places.now values.now (records_in 64 (length places.now) (length values.now))) pair) x }
+    ensures { result ≡ unwrap_or (gap_record (records_of places.now values.now (records_in 64 (length places.now) (length values.now))) pair) x }
 {
     row_exports::sewqirun_gap_record(places, values, pair, x)
 }
@@ -86,7 +86,7 @@ pub extern "C" fn sewqirun_row_entries(
     n: usize,
     i: usize,
 ) -> usize
-    ensures { (result ≡ refused_by (row_entries entries.now coords n i).checked) × (out.new ≡ entries_over out.old (row_entries entries.now coords n i)) }
+    ensures { (result ≡ refused_by (row_entries entries.now coords n i)) × (out.new ≡ entries_over out.old (row_entries entries.now coords n i)) }
 {
     row_exports::sewqirun_row_entries(out, entries, coords, n, i)
 }

@@ -23,11 +23,9 @@ use Rattle.mechanism.specs.Description.{range_length, side_length, sum_in}
 use Rattle.mechanism.specs.Check.{side_over, pair_over, pairs_over, limit_passed, check_of}
 use Rattle.mechanism.proofs.Checks.{parts-few}
 use Rattle.mechanism.proofs.Refusals.{NotThree, then-not, if_not, check_not}
-use Rattle.bodies.specs.Check.{and_then}
+use Rattle.bodies.specs.Check.{Checked, number_of}
 use Rattle.bodies.specs.declared.Problem.{Problem}
-use Rattle.bodies.specs.declared.Problem.TheVariants.{TextTooLong, LineNotRead, LimitPassed, PoseNotMatching}
-use Rattle.bodies.specs.declared.Checked.{Checked}
-use Rattle.bodies.specs.declared.Checked.TheVariants.{Accepted, Refused}
+use Rattle.bodies.specs.declared.Problem.TheVariants.{TextTooLong, LimitPassed, PoseNotMatching}
 use Rattle.text.specs.Lists.{fold_of}
 use Rattle.text.specs.Pieces.{split}
 use Rattle.text.specs.declared.records.Record.{Record}
@@ -39,8 +37,9 @@ use Rattle.sheet.specs.declared.draft.Draft.{Draft}
 use Rattle.sheet.specs.Grammar.{no_line}
 use Rattle.sheet.specs.Limits.{Bounds, no_side, no_tally, more_side, counted, within_limits}
 use Rattle.sheet.specs.Draft.{no_outlines, no_draft, no_range, new_pair, out_part, out_pair, grown, on_a, on_b, put}
-use Rattle.sheet.specs.Read.{Lines, stuck, whole, all_within, lines, drafted, edges, accepted, refused, judged, sheet_of_lines, written_in, entries_checked, sheet_checked}
+use Rattle.sheet.specs.Read.{Lines, stuck, whole, all_within, lines, drafted, edges, accepted, judged, sheet_of_lines, written_in, entries_checked, sheet_checked, kept_if, kept, sheet_of}
 use Rattle.sheet.proofs.Counting.{bounds, no_tally-bounds}
+use Rattle.std.proofs.Common.{Result, Ok, Err}
 
 -- ---- arrays
 -- after a store each place has what was stored, what it had, or, past the end, the value named for that
@@ -239,51 +238,43 @@ records_within (r ∷ rs) t d l b w e =
     let c = bounds (counted t r) h.0 in
     records_within rs (counted t r) (put t d r) l c (holds_more t d r c w) h.1
 
--- a refusal comes with a blank description
-blank-within : (p : Problem) → limit_passed (refused p).mechanism ≡ false
-unfolding refused
-blank-within p = mechanism_within no_tally no_draft no_outlines no_tally-bounds holds-none
-
-abbrev Within : Sheet → Type 0
-Within s = limit_passed s.mechanism ≡ false
+-- what a text writes passes no limit, where it is not refused
+abbrev Within : Result Sheet Problem → Type 0
+Within (Ok s) = limit_passed s.mechanism ≡ false
+Within (Err p) = Unit {0}
 
 lines-within : (w : Lines) → Within (judged w)
-lines-within (stuck n) = blank-within (LineNotRead n)
+lines-within (stuck n) = tt
 lines-within (whole rs) = go (all_within no_tally rs) refl
   where
     made : Sheet
     made = accepted (fold_of counted no_tally rs) (drafted no_tally no_draft rs) (sets no_outlines 0 (edges rs))
 
-    go : (b : Bool) → all_within no_tally rs ≡ b → Within (cond b made (refused LimitPassed))
+    go : (b : Bool) → all_within no_tally rs ≡ b → Within (cond b (Ok made) (Err LimitPassed))
     go true e = records_within rs no_tally no_draft (sets no_outlines 0 (edges rs)) no_tally-bounds holds-none e
-    go false e = blank-within LimitPassed
+    go false e = tt
 
--- the description of a text passes no limit, whether the text is refused or not
-pub no_limit_passed : (text : List ℕ) → limit_passed (written_in text).mechanism ≡ false
+text-within : (text : List ℕ) → Within (written_in text)
 unfolding written_in sheet_of_lines
-no_limit_passed text = go (ltb 65536 (length text))
+text-within text = go (ltb 65536 (length text))
   where
-    go : (b : Bool) → Within (cond b (refused TextTooLong) (sheet_of_lines text))
-    go true = blank-within TextTooLong
+    go : (b : Bool) → Within (cond b (Err TextTooLong) (sheet_of_lines text))
+    go true = tt
     go false = lines-within (lines no_line 1 (split (code "\n") text))
 
+-- the description of a text passes no limit
+pub no_limit_passed : (text : List ℕ) {s : Sheet} → written_in text ≡ Ok s → limit_passed s.mechanism ≡ false
+no_limit_passed text e = subst Within e (text-within text)
+
 -- 3 is answered for a text only where a line of it passes a limit
-pub three_of_lines : (text : List ℕ) → sheet_checked (written_in text) ≡ Refused LimitPassed → (written_in text).checked ≡ Refused LimitPassed
-unfolding sheet_checked
-three_of_lines text e = go s.checked e
+pub three_of_lines : (text : List ℕ) → sheet_of text ≡ Err LimitPassed → written_in text ≡ Err LimitPassed
+unfolding sheet_of sheet_checked
+three_of_lines text e = go (written_in text) (text-within text) e
   where
-    s : Sheet
-    s = written_in text
-
-    entries : Checked
-    entries = entries_checked s.entries.count s.mechanism.bodies.coords
-
-    rest : Checked
-    rest = and_then (check_of s.mechanism) entries
-
-    rest-not : NotThree rest
-    rest-not = then-not (check_of s.mechanism) entries (check_not s.mechanism (no_limit_passed text)) (if_not (not (eqb s.entries.count s.mechanism.bodies.coords)) PoseNotMatching (λ f. omega arith))
-
-    go : (c : Checked) → and_then c rest ≡ Refused LimitPassed → c ≡ Refused LimitPassed
-    go Accepted f = absurd (subst NotThree f rest-not refl)
-    go (Refused p) f = f
+    go : (w : Result Sheet Problem) → Within w → kept w ≡ Err LimitPassed → w ≡ Err LimitPassed
+    go (Err p) h f = f
+    go (Ok s) h f = absurd (of_checked (sheet_checked s) (then-not (check_of s.mechanism) (entries_checked s.entries.count s.mechanism.bodies.coords) (check_not s.mechanism h) (if_not (not (eqb s.entries.count s.mechanism.bodies.coords)) PoseNotMatching (λ g. omega arith))) f)
+      where
+        of_checked : (c : Checked) → NotThree c → kept_if c s ≡ Err LimitPassed → ⊥
+        of_checked (Ok tt) n g = cc
+        of_checked (Err p) n g = let h : p ≡ LimitPassed = cc in n (ap number_of h)

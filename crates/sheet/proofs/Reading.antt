@@ -11,11 +11,9 @@ use lib.ListN.{length, take, drop, set}
 use lib.Seq.{sets}
 use Rattle.laws.proofs.Choice.{cond_yes, cond_no}
 use Rattle.mechanism.specs.declared.part.OutlineSeg.{OutlineSeg}
+use Rattle.geometry.specs.declared.Seg.{Seg}
 use Rattle.bodies.specs.declared.Problem.{Problem}
 use Rattle.bodies.specs.declared.Problem.TheVariants.{LineNotRead, LimitPassed}
-use Rattle.bodies.specs.declared.Checked.{Checked}
-use Rattle.bodies.specs.declared.Checked.TheVariants.{Accepted, Refused}
-use Rattle.mechanism.specs.Check.{check_of}
 use Rattle.text.specs.Lists.{fold_of}
 use Rattle.text.specs.Pieces.{split, piece_end}
 use Rattle.text.proofs.Pieces.{Piece, piece, at_least_one}
@@ -28,16 +26,17 @@ use Rattle.sheet.specs.declared.draft.Draft.{Draft}
 use Rattle.sheet.specs.Grammar.{kind_of, no_line, after, follows, may_end}
 use Rattle.sheet.specs.Limits.{Bounds, no_tally, counted, within_limits}
 use Rattle.sheet.specs.Draft.{no_outlines, no_draft, put, edge_of}
-use Rattle.sheet.specs.Read.{Lines, stuck, whole, then, line_of, lines, all_within, drafted, edges, accepted, refused, ended, judged, sheet_of_lines, written_in, entries_checked, sheet_checked, kept_if, sheet_of}
+use Rattle.sheet.specs.Read.{Lines, stuck, whole, then, line_of, lines, all_within, drafted, edges, accepted, ended, judged, sheet_of_lines}
 use Rattle.sheet.proofs.Counting.{bounds, no_tally-bounds}
+use Rattle.std.proofs.Common.{Result, Ok, Err}
 
 abbrev L : ℕ
 L = code "L"
 
 -- what is left to read, judged from a tally, a description and its segments on; `good` says whether all lines so far kept within the limits
-abbrev judged_from : Bool → Tally → Draft → List OutlineSeg → Lines → Sheet
-judged_from good t d l (stuck n) = refused (LineNotRead n)
-judged_from good t d l (whole rs) = cond (good && all_within t rs) (accepted (fold_of counted t rs) (drafted t d rs) (sets l t.segs (edges rs))) (refused LimitPassed)
+abbrev judged_from : Bool → Tally → Draft → List OutlineSeg → Lines → Result Sheet Problem
+judged_from good t d l (stuck n) = Err (LineNotRead n)
+judged_from good t d l (whole rs) = cond (good && all_within t rs) (Ok (accepted (fold_of counted t rs) (drafted t d rs) (sets l t.segs (edges rs)))) (Err LimitPassed)
 
 pub record Reading (text : List ℕ) (seg : List OutlineSeg) (made : Draft) (tally : Tally) (good : Bool) (stands : Standing) (n at : ℕ) : Type 0 where
   pub inside : at ≤ length text
@@ -78,8 +77,8 @@ module _ (t : Tally) (d : Draft) (l : List OutlineSeg) (r : Record) where
   unfolding all_within drafted fold_of
   keeps l' e s (stuck n) = refl
   keeps l' e s (whole rs) =
-      ap (λ (b : Bool). cond (b && all_within (counted t r) rs) (accepted (fold_of counted (counted t r) rs) (drafted (counted t r) (put t d r) rs) (sets l t.segs (edges (r ∷ rs)))) (refused LimitPassed)) e
-      ∙ ap (λ (x : List OutlineSeg). cond (all_within (counted t r) rs) (accepted (fold_of counted (counted t r) rs) (drafted (counted t r) (put t d r) rs) x) (refused LimitPassed)) (sym (s rs))
+      ap (λ (b : Bool). cond (b && all_within (counted t r) rs) (Ok (accepted (fold_of counted (counted t r) rs) (drafted (counted t r) (put t d r) rs) (sets l t.segs (edges (r ∷ rs))))) (Err LimitPassed)) e
+      ∙ ap (λ (x : List OutlineSeg). cond (all_within (counted t r) rs) (Ok (accepted (fold_of counted (counted t r) rs) (drafted (counted t r) (put t d r) rs) x)) (Err LimitPassed)) (sym (s rs))
 
 -- the segments stay where the line is no L or A, and else have one more
 no_edge : (t : Tally) (r : Record) → (kind_of r ≡ L → ⊥) → (counted t r).segs ≡ t.segs
@@ -94,6 +93,18 @@ no_edge t (OnB x) e = refl
 no_edge t (Margin m) e = refl
 no_edge t (Turned x) e = refl
 no_edge t Malformed e = refl
+
+pub not-edge : (r : Record) → ((g : Seg) → r ≡ Edge g → ⊥) → kind_of r ≡ L → ⊥
+not-edge (Coords n) h e = omega arith
+not-edge (Joined b) h e = omega arith
+not-edge (Drawn b r w) h e = omega arith
+not-edge (Edge g) h e = h g refl
+not-edge (Paired g) h e = omega arith
+not-edge (OnA x) h e = omega arith
+not-edge (OnB x) h e = omega arith
+not-edge (Margin m) h e = omega arith
+not-edge (Turned x) h e = omega arith
+not-edge Malformed h e = omega arith
 
 pub one-edge : (t : Tally) (r : Record) → kind_of r ≡ L → (counted t r).segs ≡ t.segs + 1
 unfolding counted
@@ -136,7 +147,7 @@ module _ {text : List ℕ} {seg : List OutlineSeg} {made : Draft} {tally : Tally
   line-piece = piece text 10 at e w.inside q
 
   -- the last piece
-  pub at-end : e ≡ length text → {b : Bool} → b ≡ may_end (length (take (e - at) (drop at text))) stands → {x : Sheet} → x ≡ ended b n good (accepted tally made seg) → x ≡ sheet_of_lines text
+  pub at-end : e ≡ length text → {b : Bool} → b ≡ may_end (length (take (e - at) (drop at text))) stands → {x : Result Sheet Problem} → x ≡ ended b n good (accepted tally made seg) → x ≡ sheet_of_lines text
   unfolding lines all_within drafted edges fold_of
   at-end h {b} y z =
       z
@@ -163,7 +174,7 @@ module _ {text : List ℕ} {seg : List OutlineSeg} {made : Draft} {tally : Tally
         ∙ sym (ap (λ (ps : List (List ℕ)). judged_from good tally made seg (lines stands n ps)) (line-piece.more l))
         ∙ w.same
 
-    pub out_of_order : follows stands r ≡ false → refused (LineNotRead n) ≡ sheet_of_lines text
+    pub out_of_order : follows stands r ≡ false → Err (LineNotRead n) ≡ sheet_of_lines text
     out_of_order g = sym (ap (judged_from good tally made seg) (cond_no _ (stuck n) g)) ∙ line-judged
 
     -- the next line, from what this one leaves
@@ -204,26 +215,5 @@ module _ {text : List ℕ} {seg : List OutlineSeg} {made : Draft} {tally : Tally
           pub reads_on : (kind_of r ≡ L → ⊥) → Reading text seg made' tally' good' s (n + 1) (e + 1)
           reads_on z = goes seg (put-none tally seg r z)
 
-          pub reads-edge : kind_of r ≡ L → {x : OutlineSeg} → x ≡ edge_of r → Reading text (set seg tally.segs x) made' tally' good' s (n + 1) (e + 1)
-          reads-edge z ex = rw ex (goes (set seg tally.segs (edge_of r)) (put-edge tally seg r z))
-
--- ---- the checks of what is written
-pub at-text : (s : Sheet) {p : Problem} → s.checked ≡ Refused p → sheet_checked s ≡ Refused p
-unfolding sheet_checked
-at-text s e = simp e
-
-pub at-description : (s : Sheet) {p : Problem} → s.checked ≡ Accepted → check_of s.mechanism ≡ Refused p → sheet_checked s ≡ Refused p
-unfolding sheet_checked
-at-description s e f = simp (e, f)
-
-pub at-entries : (s : Sheet) → s.checked ≡ Accepted → check_of s.mechanism ≡ Accepted → sheet_checked s ≡ entries_checked s.entries.count s.mechanism.bodies.coords
-unfolding sheet_checked
-at-entries s e f = simp (e, f)
-
-pub kept : (text : List ℕ) {s : Sheet} {k : Checked} → s ≡ written_in text → k ≡ sheet_checked s → k ≡ Accepted → s ≡ sheet_of text
-unfolding sheet_of
-kept text e f g = e ∙ sym (ap (λ x. kept_if x (written_in text)) (ap sheet_checked (sym e) ∙ sym f ∙ g))
-
-pub not_kept : (text : List ℕ) {s : Sheet} {k : Checked} {p : Problem} → s ≡ written_in text → k ≡ sheet_checked s → k ≡ Refused p → refused p ≡ sheet_of text
-unfolding sheet_of
-not_kept text e f g = sym (ap (λ x. kept_if x (written_in text)) (ap sheet_checked (sym e) ∙ sym f ∙ g))
+          pub reads-edge : {g : Seg} → r ≡ Edge g → Reading text (set seg tally.segs (record { seg = g })) made' tally' good' s (n + 1) (e + 1)
+          reads-edge {g} q = goes (set seg tally.segs (record { seg = g })) (rw q (put-edge tally seg (Edge g) refl))

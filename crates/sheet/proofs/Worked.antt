@@ -18,7 +18,6 @@ use Rattle.mechanism.specs.declared.part.OutlineSeg.{OutlineSeg}
 use Rattle.mechanism.specs.declared.pair.Surface.{Surface}
 use Rattle.mechanism.specs.declared.pair.PairGeometry.TheVariants.{Features}
 use Rattle.bodies.specs.declared.Problem.TheVariants.{LineNotRead, LimitPassed}
-use Rattle.bodies.specs.declared.Checked.TheVariants.{Accepted}
 use Rattle.text.specs.Bytes.{bytes}
 use Rattle.text.specs.Lists.{all_of, fold_of}
 use Rattle.text.specs.Pieces.{onto, split}
@@ -26,7 +25,8 @@ use Rattle.text.specs.Fields.{written, decimal, number_of, pattern, float_of, le
 use Rattle.text.specs.Records.{first_fit}
 use Rattle.sheet.specs.Limits.{counted, within_limits}
 use Rattle.sheet.specs.Draft.{no_body, no_part, no_seg, no_range, new_pair, no_entry, no_draft, put}
-use Rattle.sheet.specs.Read.{lines, all_within, drafted, edges, accepted, refused, sheet_of_lines, written_in}
+use Rattle.sheet.specs.Read.{lines, all_within, drafted, edges, accepted, sheet_of_lines, written_in}
+use Rattle.std.proofs.Common.{Ok, Err, MatchResult}
 
 -- each line with its newline
 abbrev text : List String → List ℕ
@@ -36,39 +36,39 @@ text (l ∷ ls) = bytes l ++ (10 ∷ text ls)
 -- ---- texts that are refused
 pub record RefusedTexts : Type 0 where
   -- an empty text: M is missing, at the line after the last
-  pub empty : written_in [] ≡ refused (LineNotRead 1)
+  pub empty : written_in [] ≡ Err (LineNotRead 1)
   -- G alone
-  pub only_margin : written_in (text ("G,3ff0000000000000" ∷ [])) ≡ refused (LineNotRead 2)
+  pub only_margin : written_in (text ("G,3ff0000000000000" ∷ [])) ≡ Err (LineNotRead 2)
   -- M alone
-  pub no_margin : written_in (text ("M,1" ∷ [])) ≡ refused (LineNotRead 2)
+  pub no_margin : written_in (text ("M,1" ∷ [])) ≡ Err (LineNotRead 2)
   -- J before M: then M is out of order
-  pub joint_first : written_in (text ("J,G,0" ∷ "M,1" ∷ "G,3ff0000000000000" ∷ [])) ≡ refused (LineNotRead 2)
+  pub joint_first : written_in (text ("J,G,0" ∷ "M,1" ∷ "G,3ff0000000000000" ∷ [])) ≡ Err (LineNotRead 2)
   -- K, then P
-  pub pair_first : written_in (text ("M,1" ∷ "K,F" ∷ "P,0,S,M,3ff0000000000000" ∷ "G,3ff0000000000000" ∷ [])) ≡ refused (LineNotRead 3)
+  pub pair_first : written_in (text ("M,1" ∷ "K,F" ∷ "P,0,S,M,3ff0000000000000" ∷ "G,3ff0000000000000" ∷ [])) ≡ Err (LineNotRead 3)
   -- S,B, then S,A
-  pub b_first : written_in (text ("M,1" ∷ "K,F" ∷ "S,B,0,0,1" ∷ "S,A,0,0,1" ∷ "G,3ff0000000000000" ∷ [])) ≡ refused (LineNotRead 4)
+  pub b_first : written_in (text ("M,1" ∷ "K,F" ∷ "S,B,0,0,1" ∷ "S,A,0,0,1" ∷ "G,3ff0000000000000" ∷ [])) ≡ Err (LineNotRead 4)
   -- T before G
-  pub entry_first : written_in (text ("M,1" ∷ "T,0000000000000000,0000000000000000,3ff0000000000000" ∷ "G,3ff0000000000000" ∷ [])) ≡ refused (LineNotRead 2)
+  pub entry_first : written_in (text ("M,1" ∷ "T,0000000000000000,0000000000000000,3ff0000000000000" ∷ "G,3ff0000000000000" ∷ [])) ≡ Err (LineNotRead 2)
   -- a second G
-  pub two_margins : written_in (text ("M,1" ∷ "G,3ff0000000000000" ∷ "G,3ff0000000000000" ∷ [])) ≡ refused (LineNotRead 3)
+  pub two_margins : written_in (text ("M,1" ∷ "G,3ff0000000000000" ∷ "G,3ff0000000000000" ∷ [])) ≡ Err (LineNotRead 3)
   -- L without its P
-  pub loose_segment : written_in (text ("M,1" ∷ "L,0000000000000000,0000000000000000,0000000000000000,0000000000000000" ∷ "G,3ff0000000000000" ∷ [])) ≡ refused (LineNotRead 2)
+  pub loose_segment : written_in (text ("M,1" ∷ "L,0000000000000000,0000000000000000,0000000000000000,0000000000000000" ∷ "G,3ff0000000000000" ∷ [])) ≡ Err (LineNotRead 2)
   -- a last line without its newline
-  pub no_newline : written_in (bytes "M,1\nG,3ff0000000000000") ≡ refused (LineNotRead 2)
+  pub no_newline : written_in (bytes "M,1\nG,3ff0000000000000") ≡ Err (LineNotRead 2)
   -- a carriage return
-  pub carriage_return : written_in (text ("M,1\r" ∷ "G,3ff0000000000000" ∷ [])) ≡ refused (LineNotRead 1)
+  pub carriage_return : written_in (text ("M,1\r" ∷ "G,3ff0000000000000" ∷ [])) ≡ Err (LineNotRead 1)
   -- 00 is no whole number
-  pub two_zeros : written_in (text ("M,00" ∷ "G,3ff0000000000000" ∷ [])) ≡ refused (LineNotRead 1)
+  pub two_zeros : written_in (text ("M,00" ∷ "G,3ff0000000000000" ∷ [])) ≡ Err (LineNotRead 1)
   -- 65,536 is no whole number
-  pub too_large : written_in (text ("M,65536" ∷ "G,3ff0000000000000" ∷ [])) ≡ refused (LineNotRead 1)
+  pub too_large : written_in (text ("M,65536" ∷ "G,3ff0000000000000" ∷ [])) ≡ Err (LineNotRead 1)
   -- a capital hexadecimal digit
-  pub capital_digit : written_in (text ("M,1" ∷ "G,3FF0000000000000" ∷ [])) ≡ refused (LineNotRead 2)
+  pub capital_digit : written_in (text ("M,1" ∷ "G,3FF0000000000000" ∷ [])) ≡ Err (LineNotRead 2)
   -- 65,535 is one, and too many coordinates
-  pub too_many_coordinates : written_in (text ("M,65535" ∷ "G,3ff0000000000000" ∷ [])) ≡ refused LimitPassed
+  pub too_many_coordinates : written_in (text ("M,65535" ∷ "G,3ff0000000000000" ∷ [])) ≡ Err LimitPassed
   -- a side of thirteen segments, of a part that does not exist
-  pub thirteen_segments : written_in (text ("M,1" ∷ "K,F" ∷ "S,A,9,0,13" ∷ "G,3ff0000000000000" ∷ [])) ≡ refused LimitPassed
+  pub thirteen_segments : written_in (text ("M,1" ∷ "K,F" ∷ "S,A,9,0,13" ∷ "G,3ff0000000000000" ∷ [])) ≡ Err LimitPassed
   -- 2 comes before 3
-  pub order_first : written_in (text ("M,17" ∷ "G,3ff0000000000000" ∷ "G,3ff0000000000000" ∷ [])) ≡ refused (LineNotRead 3)
+  pub order_first : written_in (text ("M,17" ∷ "G,3ff0000000000000" ∷ "G,3ff0000000000000" ∷ [])) ≡ Err (LineNotRead 3)
 
 pub refused-texts : RefusedTexts
 unfolding all_of fold_of onto split written decimal number_of pattern float_of letter_of is_kind fits_form first_fit counted within_limits no_draft put lines all_within drafted edges sheet_of_lines written_in
@@ -96,9 +96,9 @@ refused-texts = record {
 abbrev seventeen : List ℕ
 seventeen = text ("M,1" ∷ "G,3ff0000000000000" ∷ replicate 17 "T,0000000000000000,0000000000000000,3ff0000000000000")
 
-pub seventeen-entries : ((written_in seventeen).checked ≡ Accepted) × ((written_in seventeen).entries.count ≡ 17)
+pub seventeen-entries : MatchResult (written_in seventeen) (λ s. s.entries.count ≡ 17) (λ p. ⊥)
 unfolding all_of fold_of onto split written decimal number_of pattern float_of letter_of is_kind fits_form first_fit counted within_limits no_draft put lines all_within drafted edges accepted sheet_of_lines written_in
-seventeen-entries = (refl, refl)
+seventeen-entries = refl
 
 -- ---- the sheet of document 01
 abbrev at : Float → Float → Point
@@ -135,8 +135,7 @@ paper =
     ∷ "T,3ff8000000000000,0000000000000000,3ff0000000000000"
     ∷ [])
 
-pub paper-says : written_in paper ≡ record {
-  checked = Accepted;
+pub paper-says : written_in paper ≡ Ok record {
   mechanism = record {
     bodies = record { coords = 1; count = 1; body = record { parent = 0; joint = Prismatic (at zero_f zero_f) (record { x = zero_f; y = one_f }) 0 } ∷ replicate 14 no_body };
     parts = record { count = 2; part = solid 0 4 ∷ solid 1 3 ∷ replicate 30 no_part };

@@ -1,13 +1,11 @@
 -- What a sheet text says: the description, the margin and the entries of the pose, or document 01's refusals 1 to 11. Definitions only.
-use Rattle.std.specs.Prelude.{ℕ, ◌+◌, Bool, true, not, ◌&&◌, cond, List, [], ◌∷◌, ltb, eqb, length}
+use Rattle.std.specs.Prelude.{ℕ, ◌+◌, Bool, true, not, ◌&&◌, cond, List, [], ◌∷◌, ltb, eqb, length, Result, Ok, Err}
 use Prim.Native.Char.{code}
 use Rattle.std.proofs.lemmas.List.Edits.{sets}
 use Rattle.mechanism.specs.declared.part.OutlineSeg.{OutlineSeg}
 use Rattle.bodies.specs.declared.Problem.{Problem}
 use Rattle.bodies.specs.declared.Problem.TheVariants.{TextTooLong, LineNotRead, LimitPassed, PoseNotMatching}
-use Rattle.bodies.specs.declared.Checked.{Checked}
-use Rattle.bodies.specs.declared.Checked.TheVariants.{Accepted, Refused}
-use Rattle.bodies.specs.Check.{and_then, refused_if}
+use Rattle.bodies.specs.Check.{Checked, and_then, refused_if}
 use Rattle.mechanism.specs.Check.{check_of}
 use Rattle.text.specs.Lists.{fold_of}
 use Rattle.text.specs.Pieces.{split, fields_of}
@@ -60,7 +58,6 @@ edges (r ∷ rs) = cond (eqb (kind_of r) (code "L")) (edge_of r ∷ edges rs) (e
 -- ---- the sheet
 unfoldable pub accepted : Tally → Draft → List OutlineSeg → Sheet
 accepted t d l = record {
-  checked = Accepted;
   mechanism = record {
     bodies = record { coords = t.coords; count = t.bodies; body = d.body };
     parts = record { count = t.parts; part = d.part };
@@ -71,41 +68,39 @@ accepted t d l = record {
   entries = d.entries;
 }
 
--- a refusal comes with a blank description, margin 0 and no entries
-abbrev blank : Sheet
-blank = accepted no_tally no_draft no_outlines
-
-unfoldable pub refused : Problem → Sheet
-refused p = record { checked = Refused p; mechanism = blank.mechanism; margin = blank.margin; entries = blank.entries }
-
 -- 2 comes before 3
-abbrev pub ended : Bool → ℕ → Bool → Sheet → Sheet
-ended fit n good s = cond fit (cond good s (refused LimitPassed)) (refused (LineNotRead n))
+abbrev pub ended : Bool → ℕ → Bool → Sheet → Result Sheet Problem
+ended fit n good s = cond fit (cond good (Ok s) (Err LimitPassed)) (Err (LineNotRead n))
 
-abbrev pub judged : Lines → Sheet
-judged (stuck n) = refused (LineNotRead n)
-judged (whole rs) = cond (all_within no_tally rs) (accepted (fold_of counted no_tally rs) (drafted no_tally no_draft rs) (sets no_outlines 0 (edges rs))) (refused LimitPassed)
+abbrev pub judged : Lines → Result Sheet Problem
+judged (stuck n) = Err (LineNotRead n)
+judged (whole rs) = cond (all_within no_tally rs) (Ok (accepted (fold_of counted no_tally rs) (drafted no_tally no_draft rs) (sets no_outlines 0 (edges rs)))) (Err LimitPassed)
 
-unfoldable pub sheet_of_lines : List ℕ → Sheet
+unfoldable pub sheet_of_lines : List ℕ → Result Sheet Problem
 sheet_of_lines text = judged (lines no_line 1 (split (code "\n") text))
 
 -- what a text writes
-unfoldable pub written_in : List ℕ → Sheet
-written_in text = cond (ltb 65536 (length text)) (refused TextTooLong) (sheet_of_lines text)
+unfoldable pub written_in : List ℕ → Result Sheet Problem
+written_in text = cond (ltb 65536 (length text)) (Err TextTooLong) (sheet_of_lines text)
 
 -- ---- the checks of what is written
 -- 11: not one T line for each coordinate
 abbrev pub entries_checked : ℕ → ℕ → Checked
 entries_checked entries coords = refused_if (not (eqb entries coords)) PoseNotMatching
 
--- 1 to 3, then the description's 4 to 10, then 11
+-- the description's 4 to 10, then 11
 unfoldable pub sheet_checked : Sheet → Checked
-sheet_checked s = and_then s.checked (and_then (check_of s.mechanism) (entries_checked s.entries.count s.mechanism.bodies.coords))
+sheet_checked s = and_then (check_of s.mechanism) (entries_checked s.entries.count s.mechanism.bodies.coords)
 
-abbrev pub kept_if : Checked → Sheet → Sheet
-kept_if Accepted s = s
-kept_if (Refused p) s = refused p
+abbrev pub kept_if : Checked → Sheet → Result Sheet Problem
+kept_if (Ok tt) s = Ok s
+kept_if (Err p) s = Err p
+
+-- behind what is written, which 1 to 3 may refuse, the checks of it
+abbrev pub kept : Result Sheet Problem → Result Sheet Problem
+kept (Ok s) = kept_if (sheet_checked s) s
+kept (Err p) = Err p
 
 -- what a text says
-unfoldable pub sheet_of : List ℕ → Sheet
-sheet_of text = kept_if (sheet_checked (written_in text)) (written_in text)
+unfoldable pub sheet_of : List ℕ → Result Sheet Problem
+sheet_of text = kept (written_in text)

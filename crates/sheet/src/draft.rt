@@ -1,6 +1,6 @@
 // The description, put together line by line. The tally of the lines before a line says where it goes.
-ghost use Rattle.std.specs.Prelude.{◌≡◌, ◌-◌, ◌<◌, ◌≤◌};
-ghost use Rattle.sheet.specs.Draft.{no_part, no_seg, no_outlines, no_surface, new_pair, no_entries, no_draft, drawn_part, grown, with_margin, put_body, put_part, put_seg, put_pair, put_a, put_b, put_entry, put, Room, edge_of};
+ghost use Rattle.std.specs.Prelude.{◌≡◌, ◌<◌, ◌≤◌};
+ghost use Rattle.sheet.specs.Draft.{no_part, no_seg, no_outlines, no_surface, new_pair, no_entries, no_draft, drawn_part, grown, put_body, put_part, put_seg, put_pair, put_a, put_b, put_entry, put, Room};
 
 use super::Entries;
 use super::limits::Tally;
@@ -45,8 +45,7 @@ fn no_seg() -> OutlineSeg
 pub(crate) fn no_outlines() -> [OutlineSeg; 384]
     ensures { result ≡ no_outlines }
 {
-    let g = no_seg();
-    [g; 384]
+    [no_seg(); 384]
 }
 
 fn no_surface() -> Surface
@@ -82,6 +81,7 @@ fn no_entries() -> Entries
     Entries { count: 0, entry }
 }
 
+#[tactic(auto, unfolding(crate::specs::Draft::no_draft))]
 pub(crate) fn no_draft() -> Draft
     ensures { result ≡ no_draft }
 {
@@ -89,45 +89,30 @@ pub(crate) fn no_draft() -> Draft
         parent: 0,
         joint: Joint::Ground,
     };
-    let p = no_part();
-    let k = new_pair(PairGeometry::Features);
-    let entries = no_entries();
     Draft {
         body: [b; 15],
-        part: [p; 32],
-        pair: [k; 16],
+        part: [no_part(); 32],
+        pair: [new_pair(PairGeometry::Features); 16],
         margin: 0.0,
-        entries,
+        entries: no_entries(),
     }
 }
 
 // ---- each record
-// The last of n.
-fn last(n: usize) -> usize
-    ensures { result ≡ n - 1 }
-{
-    if 0 < n {
-        return n - 1;
-    }
-    0
-}
-
-fn put_body(d: Draft, n: usize, b: Body) -> Draft
+fn put_body(mut d: Draft, n: usize, b: Body) -> Draft
     requires { n < 15 }
     ensures { result ≡ put_body d n b }
 {
-    let mut u = d;
-    u.body[n] = b;
-    u
+    d.body[n] = b;
+    d
 }
 
-fn put_part(d: Draft, n: usize, p: Part) -> Draft
+fn put_part(mut d: Draft, n: usize, p: Part) -> Draft
     requires { n < 32 }
     ensures { result ≡ put_part d n p }
 {
-    let mut u = d;
-    u.part[n] = p;
-    u
+    d.part[n] = p;
+    d
 }
 
 // The last of n parts gets another number of segments.
@@ -135,41 +120,26 @@ fn put_seg(d: Draft, n: usize, segs: usize) -> Draft
     requires { n ≤ 32 }
     ensures { result ≡ put_seg d n segs }
 {
-    let k = last(n);
-    let p = d.part[k];
-    let body = p.body;
-    let sweep = p.sweep;
-    let role = p.role;
-    put_part(
-        d,
-        k,
-        Part {
-            body,
-            segs,
-            sweep,
-            role,
-        },
-    )
+    let k = n.saturating_sub(1);
+    put_part(d, k, Part { segs, ..d.part[k] })
 }
 
-fn put_pair(d: Draft, n: usize, p: ContactPair) -> Draft
+fn put_pair(mut d: Draft, n: usize, p: ContactPair) -> Draft
     requires { n < 16 }
     ensures { result ≡ put_pair d n p }
 {
-    let mut u = d;
-    u.pair[n] = p;
-    u
+    d.pair[n] = p;
+    d
 }
 
 // One range more after the first n.
-fn grow(s: Surface, n: usize, x: SurfaceRef) -> Surface
+fn grow(mut s: Surface, n: usize, x: SurfaceRef) -> Surface
     requires { n < 4 }
     ensures { result ≡ grown s n x }
 {
-    let mut u = s;
-    u.range[n] = x;
-    u.count = n + 1;
-    u
+    s.range[n] = x;
+    s.count = n + 1;
+    s
 }
 
 // The last of n pairs gets one range more on side A after its first m; the same on side B.
@@ -177,51 +147,33 @@ fn put_a(d: Draft, n: usize, m: usize, x: SurfaceRef) -> Draft
     requires { (n ≤ 16) × (m < 4) }
     ensures { result ≡ put_a d n m x }
 {
-    let k = last(n);
+    let k = n.saturating_sub(1);
     let p = d.pair[k];
-    let s = p.a;
-    let a = grow(s, m, x);
-    let b = p.b;
-    let geometry = p.geometry;
-    put_pair(d, k, ContactPair { a, b, geometry })
+    let a = grow(p.a, m, x);
+    put_pair(d, k, ContactPair { a, ..p })
 }
 
 fn put_b(d: Draft, n: usize, m: usize, x: SurfaceRef) -> Draft
     requires { (n ≤ 16) × (m < 4) }
     ensures { result ≡ put_b d n m x }
 {
-    let k = last(n);
+    let k = n.saturating_sub(1);
     let p = d.pair[k];
-    let s = p.b;
-    let b = grow(s, m, x);
-    let a = p.a;
-    let geometry = p.geometry;
-    put_pair(d, k, ContactPair { a, b, geometry })
+    let b = grow(p.b, m, x);
+    put_pair(d, k, ContactPair { b, ..p })
 }
 
-fn put_margin(d: Draft, m: f64) -> Draft
-    ensures { result ≡ with_margin d m }
-{
-    let mut u = d;
-    u.margin = m;
-    u
-}
-
-fn put_entry(d: Draft, e: Entry) -> Draft
+fn put_entry(mut d: Draft, e: Entry) -> Draft
     ensures { result ≡ put_entry d e }
 {
-    let mut u = d;
-    let mut l = u.entries;
-    let n = l.count;
+    let n = d.entries.count;
     if n < 16 {
-        l.entry[n] = e;
-        l.count = n + 1;
-        u.entries = l;
-        return u;
+        d.entries.entry[n] = e;
+        d.entries.count = n + 1;
+    } else {
+        d.entries.count = 17;
     }
-    l.count = 17;
-    u.entries = l;
-    u
+    d
 }
 
 fn new_part(body: usize, role: Role, sweep: Sweep) -> Part
@@ -236,42 +188,20 @@ fn new_part(body: usize, role: Role, sweep: Sweep) -> Part
 }
 
 // The record put into the description; t is the tally before it.
+#[tactic(auto, unfolding(crate::specs::Draft::put))]
 pub(crate) fn put(d: Draft, t: Tally, r: Record) -> Draft
     requires { Room t r }
     ensures { result ≡ put t d r }
 {
     match r {
-        Record::Coords(_) => d,
+        Record::Coords(_) | Record::Malformed => d,
         Record::Joined(b) => put_body(d, t.bodies, b),
         Record::Drawn { body, role, sweep } => put_part(d, t.parts, new_part(body, role, sweep)),
         Record::Edge(_) => put_seg(d, t.parts, t.drawn + 1),
         Record::Paired(g) => put_pair(d, t.pairs, new_pair(g)),
         Record::OnA(x) => put_a(d, t.pairs, t.a.ranges, x),
         Record::OnB(x) => put_b(d, t.pairs, t.b.ranges, x),
-        Record::Margin(m) => put_margin(d, m),
+        Record::Margin(margin) => Draft { margin, ..d },
         Record::Turned(e) => put_entry(d, e),
-        Record::Malformed => d,
-    }
-}
-
-// The segment of an L or A line; a blank one for any other.
-pub(crate) fn edge_of(r: Record) -> OutlineSeg
-    ensures { result ≡ edge_of r }
-{
-    match r {
-        Record::Edge(seg) => OutlineSeg { seg },
-        Record::Coords(_) => no_seg(),
-        Record::Joined(_) => no_seg(),
-        Record::Drawn {
-            body: _,
-            role: _,
-            sweep: _,
-        } => no_seg(),
-        Record::Paired(_) => no_seg(),
-        Record::OnA(_) => no_seg(),
-        Record::OnB(_) => no_seg(),
-        Record::Margin(_) => no_seg(),
-        Record::Turned(_) => no_seg(),
-        Record::Malformed => no_seg(),
     }
 }

@@ -1,6 +1,6 @@
 // The order of lines.
 ghost use Rattle.std.specs.Prelude.{◌≡◌};
-ghost use Rattle.sheet.specs.Grammar.{may, place_of, follows, kind_of, no_line, after, may_end};
+ghost use Rattle.sheet.specs.Grammar.{may, place_of, follows, no_line, after, may_end};
 
 use text::records::Record;
 
@@ -53,11 +53,7 @@ fn place_of(r: Record) -> Place
     match r {
         Record::Coords(_) => may(START, START, BODIES),
         Record::Joined(_) => may(START, BODIES, BODIES),
-        Record::Drawn {
-            body: _,
-            role: _,
-            sweep: _,
-        } => may(START, PARTS, PARTS),
+        Record::Drawn { .. } => may(START, PARTS, PARTS),
         Record::Edge(_) => may(PARTS, PARTS, PARTS),
         Record::Paired(_) => may(START, SIDE_B, SIDE_A),
         Record::OnA(_) => may(SIDE_A, SIDE_A, SIDE_A),
@@ -76,37 +72,13 @@ pub(crate) fn may_follow(s: Standing, r: Record) -> bool
     (p.low <= s.stage) & (s.stage <= p.high)
 }
 
-// The letter of a record's kind; A lines are of L's.
-pub(crate) fn kind_of(r: Record) -> u8
-    ensures { result ≡ kind_of r }
-{
-    match r {
-        Record::Coords(_) => b'M',
-        Record::Joined(_) => b'J',
-        Record::Drawn {
-            body: _,
-            role: _,
-            sweep: _,
-        } => b'P',
-        Record::Edge(_) => b'L',
-        Record::Paired(_) => b'K',
-        Record::OnA(_) => b'S',
-        Record::OnB(_) => b'S',
-        Record::Margin(_) => b'G',
-        Record::Turned(_) => b'T',
-        Record::Malformed => 0,
-    }
-}
-
 // The standing with one line more.
 pub(crate) fn after(s: Standing, r: Record) -> Standing
     ensures { result ≡ after s r }
 {
-    let p = place_of(r);
-    let kind = kind_of(r);
     Standing {
-        stage: p.next,
-        headed: s.headed | (kind == b'M'),
+        stage: place_of(r).next,
+        headed: s.headed | matches!(r, Record::Coords(_)),
     }
 }
 

@@ -7,15 +7,16 @@ mod limits;
 pub mod posed;
 
 ghost use Rattle.std.specs.Prelude.{◌≡◌, ◌≤◌, length};
-ghost use Rattle.sheet.specs.Read.{accepted, refused, ended, sheet_of_lines, written_in, entries_checked, sheet_checked, sheet_of};
+ghost use Rattle.sheet.specs.Read.{accepted, ended, sheet_of_lines, written_in, entries_checked, sheet_checked, sheet_of};
 
 use bodies::pose::Entry;
-use bodies::{Bodies, Checked, Problem};
+use bodies::{Bodies, Problem};
 use draft::Draft;
 use limits::Tally;
 use mechanism::check::check;
 use mechanism::part::OutlineSeg;
 use mechanism::{Mechanism, Outlines, Pairs, Parts};
+use text::records::Record;
 
 // What a text gives for each coordinate, T line by T line. Entries past sixteen are not kept, and a count of seventeen stands for any above sixteen.
 #[derive(Clone, Copy)]
@@ -24,25 +25,23 @@ pub struct Entries {
     pub entry: [Entry; 16],
 }
 
-// What a text says: whether it is accepted, and if so the description, the margin and the entries of the pose. With a refusal come blank ones.
+// What a text says: the description, the margin and the entries of the pose.
 #[derive(Clone, Copy)]
 pub struct Sheet {
-    pub checked: Checked,
     pub mechanism: Mechanism,
     pub margin: f64,
     pub entries: Entries,
 }
 
 // The description that was read.
+#[tactic(auto, unfolding(crate::specs::Read::accepted))]
 fn accept(t: Tally, d: Draft, seg: [OutlineSeg; 384]) -> Sheet
     ensures { result ≡ accepted t d seg }
 {
     let body = d.body;
     let part = d.part;
     let pair = d.pair;
-    let entries = d.entries;
     Sheet {
-        checked: Checked::Accepted,
         mechanism: Mechanism {
             bodies: Bodies {
                 coords: t.coords,
@@ -60,39 +59,32 @@ fn accept(t: Tally, d: Draft, seg: [OutlineSeg; 384]) -> Sheet
             },
         },
         margin: d.margin,
-        entries,
-    }
-}
-
-fn refuse(p: Problem) -> Sheet
-    ensures { result ≡ refused p }
-{
-    let s = accept(limits::no_tally(), draft::no_draft(), draft::no_outlines());
-    let mechanism = s.mechanism;
-    let entries = s.entries;
-    Sheet {
-        checked: Checked::Refused(p),
-        mechanism,
-        margin: s.margin,
-        entries,
+        entries: d.entries,
     }
 }
 
 // The end of a text: whether it may end there, the line after its last, and whether it kept within the limits.
-fn end(fit: bool, line: usize, kept: bool, t: Tally, d: Draft, seg: [OutlineSeg; 384]) -> Sheet
+fn end(
+    fit: bool,
+    line: usize,
+    kept: bool,
+    t: Tally,
+    d: Draft,
+    seg: [OutlineSeg; 384],
+) -> Result<Sheet, Problem>
     ensures { result ≡ ended fit line kept (accepted t d seg) }
 {
-    if fit {
-        if kept {
-            return accept(t, d, seg);
-        }
-        return refuse(Problem::LimitPassed);
+    if !fit {
+        return Err(Problem::LineNotRead { line });
     }
-    refuse(Problem::LineNotRead { line })
+    if !kept {
+        return Err(Problem::LimitPassed);
+    }
+    Ok(accept(t, d, seg))
 }
 
 // Line by line. After a limit is passed only the order of lines is looked at.
-fn read_lines(text: &[u8]) -> Sheet
+fn read_lines(text: &[u8]) -> Result<Sheet, Problem>
     requires { length text.now ≤ 65536 }
     ensures { result ≡ sheet_of_lines text.now }
 {
@@ -112,7 +104,7 @@ fn read_lines(text: &[u8]) -> Sheet
         }
         let r = text::records::record_of(line);
         if !grammar::may_follow(stands, r) {
-            return refuse(Problem::LineNotRead { line: n });
+            return Err(Problem::LineNotRead { line: n });
         }
         stands = grammar::after(stands, r);
         n += 1;
@@ -123,9 +115,8 @@ fn read_lines(text: &[u8]) -> Sheet
             good = limits::within(tally);
             if good {
                 made = draft::put(made, t, r);
-                if grammar::kind_of(r) == b'L' {
-                    let i = t.segs;
-                    seg[i] = draft::edge_of(r);
+                if let Record::Edge(drawn) = r {
+                    seg[t.segs] = OutlineSeg { seg: drawn };
                 }
             }
         }
@@ -134,51 +125,40 @@ fn read_lines(text: &[u8]) -> Sheet
 
 // What a sheet text writes; 1 to 3.
 #[tactic(auto, unfolding(crate::specs::Read::written_in))]
-fn written(text: &[u8]) -> Sheet
+fn written(text: &[u8]) -> Result<Sheet, Problem>
     ensures { result ≡ written_in text.now }
 {
     if 65536 < text.len() {
-        return refuse(Problem::TextTooLong);
+        return Err(Problem::TextTooLong);
     }
     read_lines(text)
 }
 
 // 11: not one T line for each coordinate.
-fn entries_checked(entries: usize, coords: usize) -> Checked
+fn entries_checked(entries: usize, coords: usize) -> Result<(), Problem>
     ensures { result ≡ entries_checked entries coords }
 {
     if entries == coords {
-        return Checked::Accepted;
+        return Ok(());
     }
-    Checked::Refused(Problem::PoseNotMatching)
+    Err(Problem::PoseNotMatching)
 }
 
-// The first refusal that applies to what is written.
-fn sheet_checked(s: Sheet) -> Checked
+// The first refusal that applies to a description and its entries.
+#[tactic(auto, unfolding(crate::specs::Read::sheet_checked))]
+fn sheet_checked(s: Sheet) -> Result<(), Problem>
     ensures { result ≡ sheet_checked s }
 {
-    let c = s.checked;
-    match c {
-        Checked::Refused(p) => Checked::Refused(p),
-        Checked::Accepted => {
-            let m = s.mechanism;
-            let d = check(m);
-            match d {
-                Checked::Refused(p) => Checked::Refused(p),
-                Checked::Accepted => entries_checked(s.entries.count, m.bodies.coords),
-            }
-        }
-    }
+    check(s.mechanism)?;
+    entries_checked(s.entries.count, s.mechanism.bodies.coords)
 }
 
 // What a sheet text says.
-pub fn read(text: &[u8]) -> Sheet
+#[tactic(auto, unfolding(crate::specs::Read::sheet_of))]
+pub fn read(text: &[u8]) -> Result<Sheet, Problem>
     ensures { result ≡ sheet_of text.now }
 {
-    let s = written(text);
-    let c = sheet_checked(s);
-    match c {
-        Checked::Accepted => s,
-        Checked::Refused(p) => refuse(p),
-    }
+    let s = written(text)?;
+    sheet_checked(s)?;
+    Ok(s)
 }

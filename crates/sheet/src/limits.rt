@@ -1,6 +1,6 @@
 // The limits of a sheet (document 01, "Size of a sheet"): a tally of the lines so far.
-ghost use Rattle.std.specs.Prelude.{◌≡◌, ◌-◌, ◌≤◌};
-ghost use Rattle.sheet.specs.Limits.{Bounds, Narrow, no_side, no_tally, more_side, with_coords, plus_body, plus_part, plus_seg, plus_pair, plus_a, plus_b, counted, side_within, within_limits};
+ghost use Rattle.std.specs.Prelude.{◌≡◌, ◌≤◌};
+ghost use Rattle.sheet.specs.Limits.{Bounds, Narrow, no_side, no_tally, more_side, counted, side_within, within_limits};
 
 use mechanism::part::SurfaceRef;
 use text::records::Record;
@@ -47,116 +47,53 @@ pub(crate) fn no_tally() -> Tally
 }
 
 // A range counts past-last less first, or nothing where that is not above zero.
-fn span_of(x: SurfaceRef) -> usize
-    ensures { result ≡ x.end - x.start }
-{
-    if x.start < x.end {
-        return x.end - x.start;
-    }
-    0
-}
-
 fn more_side(s: Side, x: SurfaceRef) -> Side
     requires { (s.ranges ≤ 4) × (s.segs ≤ 12) × (x.end ≤ 65535) }
     ensures { result ≡ more_side s x }
 {
     Side {
         ranges: s.ranges + 1,
-        segs: s.segs + span_of(x),
+        segs: s.segs + x.end.saturating_sub(x.start),
     }
 }
 
-fn with_coords(t: Tally, n: usize) -> Tally
-    ensures { result ≡ with_coords t n }
-{
-    let mut u = t;
-    u.coords = n;
-    u
-}
-
-fn plus_body(t: Tally) -> Tally
-    requires { Bounds t }
-    ensures { result ≡ plus_body t }
-{
-    let mut u = t;
-    u.bodies = t.bodies + 1;
-    u
-}
-
-fn plus_part(t: Tally) -> Tally
-    requires { Bounds t }
-    ensures { result ≡ plus_part t }
-{
-    let mut u = t;
-    u.parts = t.parts + 1;
-    u.drawn = 0;
-    u
-}
-
-fn plus_seg(t: Tally) -> Tally
-    requires { Bounds t }
-    ensures { result ≡ plus_seg t }
-{
-    let mut u = t;
-    u.drawn = t.drawn + 1;
-    u.segs = t.segs + 1;
-    u
-}
-
-fn plus_pair(t: Tally) -> Tally
-    requires { Bounds t }
-    ensures { result ≡ plus_pair t }
-{
-    let s = no_side();
-    let mut u = t;
-    u.pairs = t.pairs + 1;
-    u.a = s;
-    u.b = s;
-    u
-}
-
-fn plus_a(t: Tally, x: SurfaceRef) -> Tally
-    requires { Bounds t × (x.end ≤ 65535) }
-    ensures { result ≡ plus_a t x }
-{
-    let a = t.a;
-    let s = more_side(a, x);
-    let mut u = t;
-    u.a = s;
-    u
-}
-
-fn plus_b(t: Tally, x: SurfaceRef) -> Tally
-    requires { Bounds t × (x.end ≤ 65535) }
-    ensures { result ≡ plus_b t x }
-{
-    let b = t.b;
-    let s = more_side(b, x);
-    let mut u = t;
-    u.b = s;
-    u
-}
-
 // The tally with one line more.
+#[tactic(auto, unfolding(crate::specs::Limits::counted))]
 pub(crate) fn count(t: Tally, r: Record) -> Tally
     requires { Bounds t × Narrow r }
     ensures { result ≡ counted t r }
 {
     match r {
-        Record::Coords(n) => with_coords(t, n),
-        Record::Joined(_) => plus_body(t),
-        Record::Drawn {
-            body: _,
-            role: _,
-            sweep: _,
-        } => plus_part(t),
-        Record::Edge(_) => plus_seg(t),
-        Record::Paired(_) => plus_pair(t),
-        Record::OnA(x) => plus_a(t, x),
-        Record::OnB(x) => plus_b(t, x),
-        Record::Margin(_) => t,
-        Record::Turned(_) => t,
-        Record::Malformed => t,
+        Record::Coords(coords) => Tally { coords, ..t },
+        Record::Joined(_) => Tally {
+            bodies: t.bodies + 1,
+            ..t
+        },
+        Record::Drawn { .. } => Tally {
+            parts: t.parts + 1,
+            drawn: 0,
+            ..t
+        },
+        Record::Edge(_) => Tally {
+            drawn: t.drawn + 1,
+            segs: t.segs + 1,
+            ..t
+        },
+        Record::Paired(_) => Tally {
+            pairs: t.pairs + 1,
+            a: no_side(),
+            b: no_side(),
+            ..t
+        },
+        Record::OnA(x) => Tally {
+            a: more_side(t.a, x),
+            ..t
+        },
+        Record::OnB(x) => Tally {
+            b: more_side(t.b, x),
+            ..t
+        },
+        Record::Margin(_) | Record::Turned(_) | Record::Malformed => t,
     }
 }
 
@@ -167,6 +104,7 @@ fn side_within(s: Side) -> bool
 }
 
 // No limit is passed.
+#[tactic(auto, unfolding(crate::specs::Limits::within_limits))]
 pub(crate) fn within(t: Tally) -> bool
     ensures { result ≡ within_limits t }
 {

@@ -3,42 +3,36 @@ ghost use Rattle.std.specs.Prelude.{◌≡◌, map};
 ghost use Rattle.sheet.specs.Posed.{entry_row, pose_of};
 
 use super::Entries;
-use bodies::Checked;
-use bodies::pose::{Entry, Lent, Posed, no_pose};
+use bodies::Problem;
+use bodies::pose::{Entry, Lent, Pose};
 use mechanism::Mechanism;
 use mechanism::check::call_checked;
 
 // Sixteen entries of a pose, lent.
 pub type LentEntries = [Lent; 16];
 
+// An entry as it is lent.
+fn row_of(e: Entry) -> Lent
+    ensures { result ≡ entry_row e }
+{
+    [e.value, e.sine, e.cosine]
+}
+
 // The entries of a pose as they are lent, all sixteen.
 pub fn lent(e: Entries) -> LentEntries
     ensures { result ≡ map entry_row e.entry }
 {
-    let mut q = [[0.0; 3]; 16];
-    let mut i: usize = 0;
-    while i < 16 {
-        let x = e.entry[i];
-        q[i] = [x.value, x.sine, x.cosine];
-        i += 1;
-    }
-    q
+    e.entry.map(row_of)
 }
 
 // The pose of a description for the entries of a text.
-pub fn posed(m: Mechanism, e: Entries) -> Posed
+pub fn posed(m: Mechanism, e: Entries) -> Result<Pose, Problem>
     ensures { result ≡ pose_of m e }
 {
-    let b = m.bodies;
-    let c = call_checked(m, e.count == b.coords, true, true);
-    match c {
-        Checked::Refused(p) => no_pose(p),
-        Checked::Accepted => {
-            let q = lent(e);
-            if e.count < 16 {
-                return b.pose(&q[..e.count]);
-            }
-            b.pose(&q)
-        }
+    call_checked(m, e.count == m.bodies.coords, true, true)?;
+    let q = lent(e);
+    if e.count < 16 {
+        return m.bodies.pose(&q[..e.count]);
     }
+    m.bodies.pose(&q)
 }

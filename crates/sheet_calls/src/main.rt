@@ -3,79 +3,26 @@
 // oracle's own reader and of the Rust.
 #![tactic(auto)]
 
-ghost use Rattle.std.specs.Prelude.{◌≤◌};
-
-use bodies::{Checked, Problem};
 use std::io;
-use std::io::{BufWriter, Read, Write};
-
-// A number of at most six digits, with one more digit after it.
-fn tens(v: usize, b: u8) -> usize
-    ensures { result ≤ 999999 }
-{
-    (v % 100000) * 10 + (b % 16 % 10) as usize
-}
-
-// The number that six digits say.
-fn length_of(d: [u8; 7]) -> usize {
-    tens(
-        tens(tens(tens(tens(tens(0, d[0]), d[1]), d[2]), d[3]), d[4]),
-        d[5],
-    )
-}
-
-fn print_problem<W: Write>(out: &mut W, p: Problem) -> io::Result<()> {
-    streams::write_all(out, b"X,")?;
-    streams::print_decimal(out, p.number() as u64)?;
-    streams::write_all(out, b",")?;
-    streams::print_decimal(out, p.place() as u64)?;
-    streams::write_all(out, b"\n")
-}
+use std::io::{BufWriter, Write};
 
 fn answer<W: Write>(out: &mut W, text: &[u8]) -> io::Result<()> {
-    let s = sheet::read(text);
-    let c = s.checked;
-    match c {
-        Checked::Accepted => { streams::write_all(out, b"accepted\n") }
-        Checked::Refused(p) => print_problem(out, p),
+    match sheet::read(text) {
+        Ok(_) => writeln!(out, "accepted"),
+        Err(p) => writeln!(out, "{p}"),
     }
-}
-
-// Reads n bytes, if there is room for them.
-fn fill<R: Read>(input: &mut R, buf: &mut [u8], n: usize) -> io::Result<()> {
-    if n <= buf.len() {
-        streams::read_full(input, &mut buf[..n])?;
-    }
-    Ok(())
-}
-
-// Answers the text of the first n bytes.
-fn answer_first<W: Write>(out: &mut W, buf: &[u8], n: usize) -> io::Result<()> {
-    if n <= buf.len() {
-        answer(out, &buf[..n])?;
-    }
-    Ok(())
-}
-
-// Reads and answers a text; false at the end of the input.
-fn next<R: Read, W: Write>(input: &mut R, out: &mut W) -> io::Result<bool> {
-    let mut head = [0u8; 7];
-    if streams::read_full(input, &mut head)? < 7 {
-        return Ok(false);
-    }
-    let n = length_of(head);
-    let mut buf = [0u8; 65537];
-    fill(input, &mut buf, n)?;
-    answer_first(out, &buf, n)?;
-    Ok(true)
 }
 
 fn main(rt: HostRuntime) -> io::Result<()> {
     let mut input = rt.stdin();
     let mut out = BufWriter::new(rt.alloc(), rt.stdout())?;
+    let mut buf = [0u8; 65537];
     for _ in 0..1000000 {
-        if !next(&mut input, &mut out)? {
+        let Some(n) = streams::next_text(&mut input, &mut buf)? else {
             break;
+        };
+        if let Some(text) = buf.get(..n) {
+            answer(&mut out, text)?;
         }
     }
     out.flush()

@@ -31,7 +31,6 @@ flat-long f c h (x ∷ l) =
 -- ---- A loop over n pairs, with the rows, gradients and slips of each and its bound: those of the first i are written, and `at` is the next row.
 pub record AllPairs (rows : ℕ → List Row) (gs ss : ℕ → List Float) (bound : ℕ → ℕ) (n coords : ℕ)
     (places₀ places : List (List ℕ)) (values₀ values : List (List Float)) (grad₀ grad slip₀ slip : List Float) (at i : ℕ) : Type 0 where
-  pub far : i ≤ n
   pub upto : at ≤ sum_in bound i 0
   pub placed : Writing places₀ 0 (map place_row (flat rows (list_in (λ j. j) n 0))) places at (map place_row (flat rows (list_in (λ j. j) (n - i) i)))
   pub valued : Writing values₀ 0 (map value_row (flat rows (list_in (λ j. j) n 0))) values at (map value_row (flat rows (list_in (λ j. j) (n - i) i)))
@@ -43,7 +42,6 @@ pub pairs_start : (rows : ℕ → List Row) (gs ss : ℕ → List Float) (bound 
 pairs_start rows gs ss bound n coords places values grad slip =
     let e : list_in (λ j. j) (n - 0) 0 ≡ list_in (λ j. j) n 0 = ap (λ (k : ℕ). list_in (λ j. j) k 0) (sub-zero n) in
     record {
-      far = omega arith;
       upto = omega arith;
       placed = starts (ap (λ (l : List ℕ). map place_row (flat rows l)) e);
       valued = starts (ap (λ (l : List ℕ). map value_row (flat rows l)) e);
@@ -89,7 +87,6 @@ module _ {rows : ℕ → List Row} {gs ss : ℕ → List Float} {bound : ℕ →
       let s = sum_more bound i in
       let m : r * coords ≡ at * coords + length (rows i) * coords = ap (λ (k : ℕ). k * coords) (let z : r ≡ at + length (rows i) = omega (arith, e, lp) in z) ∙ add-mul at (length (rows i)) coords in
       record {
-        far = omega (arith, h);
         upto = omega (arith, u, s, e, lp, few);
         placed = appends-at (map place_row (rows i)) (ap (λ (l : List ℕ). map place_row (flat rows l)) t ∙ map-append place_row (rows i) (flat rows rest)) p.placed (sym e) w.placed;
         valued = appends-at (map value_row (rows i)) (ap (λ (l : List ℕ). map value_row (flat rows l)) t ∙ map-append value_row (rows i) (flat rows rest)) p.valued (omega (arith, e, lp, lv)) w.valued;

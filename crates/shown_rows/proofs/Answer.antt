@@ -2,7 +2,7 @@
 use Prim.Native.Nat.{ℕ, ◌*◌, ◌≤◌}
 use native.Mathlib.Omega.{arith}
 use native.Mathlib.Nat.{zero-add, zero-mul, mul-le-mul}
-use mathlib.Core.Path.{◌≡◌, sym, ap, ap₂, subst, ◌∙◌}
+use mathlib.Core.Path.{◌≡◌, refl, sym, ap, ap₂, subst, ◌∙◌}
 use mathlib.Core.Bool.{Bool, true, false, false≢true, not, ◌&&◌}
 use mathlib.Core.List.{List, map}
 use lib.Dec.{leb}
@@ -12,11 +12,9 @@ use lib.Seq.{sets}
 use borrow.Author.Tests.{leb-true}
 use Rattle.mechanism.specs.Rows.{place_row, value_row}
 use Rattle.laws.proofs.Choice.{both}
-use Rattle.bodies.specs.Check.{is_accepted, and_then, refused_if}
+use Rattle.bodies.specs.Check.{Checked, and_then, refused_if}
 use Rattle.mechanism.specs.Check.{check_of, call_checked}
 use Rattle.bodies.specs.Pose.{pose_fits}
-use Rattle.bodies.specs.declared.Checked.{Checked}
-use Rattle.bodies.specs.declared.Checked.TheVariants.{Accepted, Refused}
 use Rattle.mechanism.specs.declared.Mechanism.{Mechanism}
 use Rattle.bodies.specs.declared.Problem.{Problem}
 use Rattle.bodies.specs.declared.Problem.TheVariants.{PoseNotMatching, NoSuchThing, TooFewRows}
@@ -24,22 +22,22 @@ use Rattle.bodies.specs.declared.pose.Pose.{Pose}
 use Rattle.mechanism.specs.declared.rows.Row.{Row}
 use Rattle.mechanism.proofs.Checks.{call_accepted, accepted-few}
 use Rattle.sides.specs.Contacts.{mechanism_bound}
-use Rattle.shown_rows.specs.declared.RowsAnswer.{RowsAnswer}
 use Rattle.pair_rows.specs.PairRows.{Put, Room}
-use Rattle.shown_rows.specs.Rows.{room_for, rows_checked, answer_if, if_accepted, rows_of, grads_of, slips_of}
+use Rattle.shown_rows.specs.Rows.{room_for, rows_checked, answer_if, if_accepted}
+use Rattle.std.proofs.Common.{Result, Ok, Err, is_ok}
 
 -- ---- the list of a call whose room is asked last
 still_refused : (c : Checked) (fits room : Bool) (p : Problem)
-    → and_then c (and_then (refused_if (not fits) PoseNotMatching) (and_then (refused_if (not true) NoSuchThing) (refused_if (not true) TooFewRows))) ≡ Refused p
-    → and_then c (and_then (refused_if (not fits) PoseNotMatching) (and_then (refused_if (not true) NoSuchThing) (refused_if (not room) TooFewRows))) ≡ Refused p
-still_refused Accepted true room p e = absurd (false≢true (sym (ap is_accepted e)))
-still_refused Accepted false room p e = e
-still_refused (Refused x) fits room p e = e
+    → and_then c (and_then (refused_if (not fits) PoseNotMatching) (and_then (refused_if (not true) NoSuchThing) (refused_if (not true) TooFewRows))) ≡ Err p
+    → and_then c (and_then (refused_if (not fits) PoseNotMatching) (and_then (refused_if (not true) NoSuchThing) (refused_if (not room) TooFewRows))) ≡ Err p
+still_refused (Ok tt) true room p e = absurd (false≢true (sym (ap is_ok e)))
+still_refused (Ok tt) false room p e = e
+still_refused (Err x) fits room p e = e
 
-pub call_refused : (m : Mechanism) (fits room : Bool) (p : Problem) → call_checked m fits true true ≡ Refused p → call_checked m fits true room ≡ Refused p
+pub call_refused : (m : Mechanism) (fits room : Bool) (p : Problem) → call_checked m fits true true ≡ Err p → call_checked m fits true room ≡ Err p
 call_refused m fits room p e = still_refused (check_of m) fits room p e
 
-pub room-last : (m : Mechanism) (fits room : Bool) → call_checked m fits true true ≡ Accepted → call_checked m fits true room ≡ refused_if (not room) TooFewRows
+pub room-last : (m : Mechanism) (fits room : Bool) → call_checked m fits true true ≡ Ok tt → call_checked m fits true room ≡ refused_if (not room) TooFewRows
 room-last m fits room e =
     let a = call_accepted m fits true true e in
     ap₂ (λ (c : Checked) (b : Bool). and_then c (and_then (refused_if (not b) PoseNotMatching) (and_then (refused_if (not true) NoSuchThing) (refused_if (not room) TooFewRows)))) a.0 a.1
@@ -71,71 +69,44 @@ module _ (m : Mechanism) where
       → room_for m (length places) (length values) (length grad) (length slip) ≡ true → Room m.bodies.coords 0 (mechanism_bound m) places values grad slip
   has_room places values grad slip e = has_room-for m.bodies.coords (mechanism_bound m) places values grad slip e
 
-pub columns_small : (m : Mechanism) (bound : ℕ) → check_of m ≡ Accepted → bound ≤ 12544 → bound * m.bodies.coords ≤ 200704
+pub columns_small : (m : Mechanism) (bound : ℕ) → check_of m ≡ Ok tt → bound ≤ 12544 → bound * m.bodies.coords ≤ 200704
 columns_small m bound e h =
     let p : bound * m.bodies.coords ≤ 12544 * 16 = mul-le-mul h (accepted-few m e).coords in
     omega (arith, p)
 
--- ---- what is answered, for any refusals, rows, gradients and slips
+-- ---- what is left in the arrays
 module _ (checked : Checked) (rows : List Row) (gs ss : List Float) (places : List (List ℕ)) (values : List (List Float)) (grad slip : List Float) where
-  abbrev Answered : RowsAnswer → List (List ℕ) → List (List Float) → List Float → List Float → Type 0
-  Answered r places' values' grad' slip' =
-      (r ≡ answer_if checked (length rows))
-      × ((places' ≡ if_accepted checked (sets places 0 (map place_row rows)) places)
-      × ((values' ≡ if_accepted checked (sets values 0 (map value_row rows)) values)
-      × ((grad' ≡ if_accepted checked (sets grad 0 gs) grad)
-      × (slip' ≡ if_accepted checked (sets slip 0 ss) slip))))
+  pub record Answered (r : Result ℕ Problem) (places' : List (List ℕ)) (values' : List (List Float)) (grad' slip' : List Float) : Type 0 where
+    pub value : r ≡ answer_if checked (length rows)
+    pub places_after : places' ≡ if_accepted checked (sets places 0 (map place_row rows)) places
+    pub values_after : values' ≡ if_accepted checked (sets values 0 (map value_row rows)) values
+    pub grad_after : grad' ≡ if_accepted checked (sets grad 0 gs) grad
+    pub slip_after : slip' ≡ if_accepted checked (sets slip 0 ss) slip
 
-  pub none-answered : {r : RowsAnswer} (p : Problem) → checked ≡ Refused p → r ≡ answer_if (Refused p) 0 → Answered r places values grad slip
-  none-answered p e a = (
-    a ∙ sym (ap (λ (c : Checked). answer_if c (length rows)) e),
-    (
-      sym (ap (λ (c : Checked). if_accepted c (sets places 0 (map place_row rows)) places) e),
-      (
-        sym (ap (λ (c : Checked). if_accepted c (sets values 0 (map value_row rows)) values) e),
-        (sym (ap (λ (c : Checked). if_accepted c (sets grad 0 gs) grad) e), sym (ap (λ (c : Checked). if_accepted c (sets slip 0 ss) slip) e)),
-      ),
-    ),
-  )
+  -- a refused call leaves everything as it was
+  pub none-answered : (p : Problem) → checked ≡ Err p → Answered (Err p) places values grad slip
+  none-answered p e = record { value = rw e refl; places_after = rw e refl; values_after = rw e refl; grad_after = rw e refl; slip_after = rw e refl }
 
-  pub rows-answered : (coords : ℕ) {n : ℕ} {places' : List (List ℕ)} {values' : List (List Float)} {grad' slip' : List Float} → checked ≡ Accepted
+  pub rows-answered : (coords : ℕ) {n : ℕ} {places' : List (List ℕ)} {values' : List (List Float)} {grad' slip' : List Float} → checked ≡ Ok tt
       → Put coords (map place_row rows) (map value_row rows) gs ss 0 n places places' values values' grad grad' slip slip'
-      → Answered (record { checked = Accepted; count = n }) places' values' grad' slip'
+      → Answered (Ok n) places' values' grad' slip'
   rows-answered coords e u =
-      let z = zero-mul coords in (
-        ap (λ (k : ℕ). answer_if Accepted k) (u.end ∙ zero-add (length (map place_row rows)) ∙ length-map rows place_row) ∙ sym (ap (λ (c : Checked). answer_if c (length rows)) e),
-        (
-          u.placed ∙ sym (ap (λ (c : Checked). if_accepted c (sets places 0 (map place_row rows)) places) e),
-          (
-            u.valued ∙ sym (ap (λ (c : Checked). if_accepted c (sets values 0 (map value_row rows)) values) e),
-            (
-              u.grads ∙ ap (λ (k : ℕ). sets grad k gs) z ∙ sym (ap (λ (c : Checked). if_accepted c (sets grad 0 gs) grad) e),
-              u.slips ∙ ap (λ (k : ℕ). sets slip k ss) z ∙ sym (ap (λ (c : Checked). if_accepted c (sets slip 0 ss) slip) e),
-            ),
-          ),
-        ),
-      )
-
--- of a mechanism
-module _ (m : Mechanism) (q : Pose) (margin : Float) (places : List (List ℕ)) (values : List (List Float)) (grad slip : List Float) where
-  abbrev checked-rows : Checked
-  checked-rows = rows_checked m q (length places) (length values) (length grad) (length slip)
-
-  pub answers_refused : {r : RowsAnswer} (p : Problem) → checked-rows ≡ Refused p → r ≡ answer_if (Refused p) 0 → Answered checked-rows (rows_of m q margin) (grads_of m q margin) (slips_of m q margin) places values grad slip r places values grad slip
-  answers_refused p e a = none-answered checked-rows (rows_of m q margin) (grads_of m q margin) (slips_of m q margin) places values grad slip p e a
-
-  pub answers_rows : {n : ℕ} {places' : List (List ℕ)} {values' : List (List Float)} {grad' slip' : List Float} → checked-rows ≡ Accepted
-      → Put m.bodies.coords (map place_row (rows_of m q margin)) (map value_row (rows_of m q margin)) (grads_of m q margin) (slips_of m q margin) 0 n places places' values values' grad grad' slip slip'
-      → Answered checked-rows (rows_of m q margin) (grads_of m q margin) (slips_of m q margin) places values grad slip (record { checked = Accepted; count = n }) places' values' grad' slip'
-  answers_rows e u = rows-answered checked-rows (rows_of m q margin) (grads_of m q margin) (slips_of m q margin) places values grad slip m.bodies.coords e u
+      let z = zero-mul coords in
+      record {
+        value = rw e (ap (λ (k : ℕ). Ok k) (u.end ∙ zero-add (length (map place_row rows)) ∙ length-map rows place_row));
+        places_after = rw e u.placed;
+        values_after = rw e u.valued;
+        grad_after = rw e (u.grads ∙ ap (λ (k : ℕ). sets grad k gs) z);
+        slip_after = rw e (u.slips ∙ ap (λ (k : ℕ). sets slip k ss) z);
+      }
 
 -- the answer of the whole list of refusals, where all but the room is known
 module _ (m : Mechanism) (q : Pose) (a b c d : ℕ) where
-  pub all-refused : (p : Problem) → call_checked m (pose_fits m.bodies q) true true ≡ Refused p → rows_checked m q a b c d ≡ Refused p
+  pub all-refused : (p : Problem) → call_checked m (pose_fits m.bodies q) true true ≡ Err p → rows_checked m q a b c d ≡ Err p
   all-refused p e = call_refused m (pose_fits m.bodies q) (room_for m a b c d) p e
 
-  pub all-accepted : call_checked m (pose_fits m.bodies q) true true ≡ Accepted → room_for m a b c d ≡ true → rows_checked m q a b c d ≡ Accepted
+  pub all-accepted : call_checked m (pose_fits m.bodies q) true true ≡ Ok tt → room_for m a b c d ≡ true → rows_checked m q a b c d ≡ Ok tt
   all-accepted e r = room-last m (pose_fits m.bodies q) (room_for m a b c d) e ∙ ap (λ (t : Bool). refused_if (not t) TooFewRows) r
 
-  pub too_few : call_checked m (pose_fits m.bodies q) true true ≡ Accepted → room_for m a b c d ≡ false → rows_checked m q a b c d ≡ Refused TooFewRows
+  pub too_few : call_checked m (pose_fits m.bodies q) true true ≡ Ok tt → room_for m a b c d ≡ false → rows_checked m q a b c d ≡ Err TooFewRows
   too_few e r = room-last m (pose_fits m.bodies q) (room_for m a b c d) e ∙ ap (λ (t : Bool). refused_if (not t) TooFewRows) r

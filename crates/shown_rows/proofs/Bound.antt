@@ -11,13 +11,13 @@ use Rattle.mechanism.specs.declared.Outlines.{Outlines}
 use Rattle.mechanism.specs.declared.Parts.{Parts}
 use Rattle.mechanism.specs.declared.pair.ContactPair.{ContactPair}
 use Rattle.mechanism.specs.Description.{sum_in}
-use Rattle.bodies.specs.declared.Checked.TheVariants.{Accepted}
 use Rattle.mechanism.specs.declared.Mechanism.{Mechanism}
 use Rattle.mechanism.proofs.Checks.{accepted-few}
 use Rattle.sides.specs.Contacts.{pair_bound, mechanism_bound, pair_features, pair_features_at, no_pair_features}
 use Rattle.sides.specs.declared.contacts.PairFeatures.{PairFeatures}
 use Rattle.sides.specs.declared.SideFeatures.{SideFeatures}
 use Rattle.sides.proofs.Few.{accepted-bound}
+use Rattle.std.proofs.Common.{Ok}
 
 pub products_small : (a b : SideFeatures) → (a.faces ≤ 12) × (a.discs ≤ 28) × (b.faces ≤ 12) × (b.discs ≤ 28)
     → (a.discs * b.faces ≤ 336) × (b.discs * a.faces ≤ 336) × (a.discs * b.discs ≤ 784)
@@ -27,7 +27,7 @@ products_small a b h =
     let r : a.discs * b.discs ≤ 28 * 28 = mul-le-mul h.1 h.3 in
     (omega (arith, p), omega (arith, q), omega (arith, r))
 
-pub bound-small : (m : Mechanism) → check_of m ≡ Accepted → mechanism_bound m ≤ 12544
+pub bound-small : (m : Mechanism) → check_of m ≡ Ok tt → mechanism_bound m ≤ 12544
 bound-small m e =
     let b = accepted-bound m e in
     let c = (accepted-few m e).pairs.count in
@@ -39,7 +39,7 @@ unfolding mechanism_bound
 bounds-part m i h = sum-part (pair_bound m) i m.pairs.count h
 
 -- as many rows as the bounds of the first i pairs
-pub rows-small : (m : Mechanism) → check_of m ≡ Accepted → (i : ℕ) → i < m.pairs.count → {at : ℕ} → at ≤ sum_in (pair_bound m) i 0 → at ≤ 12544
+pub rows-small : (m : Mechanism) → check_of m ≡ Ok tt → (i : ℕ) → i < m.pairs.count → {at : ℕ} → at ≤ sum_in (pair_bound m) i 0 → at ≤ 12544
 rows-small m e i h few =
     let b = bounds-part m i h in
     let s = bound-small m e in

@@ -12,11 +12,9 @@ use Rattle.laws.specs.Lists.{flat}
 use Rattle.laws.proofs.Choice.{both}
 use Rattle.laws.proofs.Finite.{first-none}
 use Rattle.laws.proofs.Lists.{flat-short}
-use Rattle.bodies.specs.Check.{is_accepted, and_then, refused_if, bodies_checked}
+use Rattle.bodies.specs.Check.{Checked, and_then, refused_if, bodies_checked}
 use Rattle.mechanism.specs.Check.{limit_passed, direction_missing, part_checked, parts_checked, check_of, part_draws}
 use Rattle.mechanism.specs.Description.{pair_at, part_at, range_at, start_of_part}
-use Rattle.bodies.specs.declared.Checked.{Checked}
-use Rattle.bodies.specs.declared.Checked.TheVariants.{Accepted, Refused}
 use Rattle.mechanism.specs.declared.Mechanism.{Mechanism}
 use Rattle.mechanism.specs.declared.Outlines.{Outlines}
 use Rattle.mechanism.specs.declared.Parts.{Parts}
@@ -38,38 +36,39 @@ use Rattle.proximities.specs.Proximities.{read_ab, read_ba, read_discs, read_cen
 use Rattle.proximities.specs.declared.Candidate.{Candidate}
 use Rattle.proximities.proofs.Wrote.{ab_short, ba_short, discs_short, center_short}
 use Rattle.candidates.specs.Candidates.{faces_at, discs_at, center_in, candidates_by, pair_candidates, features_candidates, center_candidates}
+use Rattle.std.proofs.Common.{Ok, Err, is_ok}
 
 -- ---- check 6: the body of each part
-passed : (c next : Checked) → and_then c next ≡ Accepted → (c ≡ Accepted) × (next ≡ Accepted)
-passed Accepted next e = (refl, e)
-passed (Refused p) next e = absurd (false≢true (ap is_accepted e))
+passed : (c next : Checked) → and_then c next ≡ Ok tt → (c ≡ Ok tt) × (next ≡ Ok tt)
+passed (Ok tt) next e = (refl, e)
+passed (Err p) next e = absurd (false≢true (ap is_ok e))
 
-parts-pass : (m : Mechanism) → check_of m ≡ Accepted → is_accepted (parts_checked m.bodies.count m.parts m.outlines) ≡ true
+parts-pass : (m : Mechanism) → check_of m ≡ Ok tt → is_ok (parts_checked m.bodies.count m.parts m.outlines) ≡ true
 unfolding check_of
 parts-pass m e =
     let a = passed (refused_if (limit_passed m) LimitPassed) _ e in
     let b = passed (bodies_checked m.bodies) _ a.1 in
     let c = passed (refused_if (direction_missing m) NoDirection) _ b.1 in
     let d = passed (parts_checked m.bodies.count m.parts m.outlines) _ c.1 in
-    ap is_accepted d.0
+    ap is_ok d.0
 
-not_above : (b : Bool) (p : Problem) (next : Checked) → is_accepted (and_then (refused_if b p) next) ≡ true → b ≡ false
+not_above : (b : Bool) (p : Problem) (next : Checked) → is_ok (and_then (refused_if b p) next) ≡ true → b ≡ false
 not_above true p next e = absurd (false≢true e)
 not_above false p next e = refl
 
-part_body : (m : Mechanism) → check_of m ≡ Accepted → (k : ℕ) → k < m.parts.count → (part_at m.parts k).body ≤ m.bodies.count
+part_body : (m : Mechanism) → check_of m ≡ Ok tt → (k : ℕ) → k < m.parts.count → (part_at m.parts k).body ≤ m.bodies.count
 unfolding parts_checked
 part_body m e k h =
     ltb-false m.bodies.count (part_at m.parts k).body
     (not_above (ltb m.bodies.count (part_at m.parts k).body) (PartOnNoSuchBody k) _
-    (first-none is_accepted Accepted (λ i. part_checked m.bodies.count m.outlines (part_at m.parts i) (start_of_part m.parts i) i) m.parts.count 0 (parts-pass m e) k (omega arith) (omega arith)))
+    (first-none is_ok (Ok tt) (λ i. part_checked m.bodies.count m.outlines (part_at m.parts i) (start_of_part m.parts i) i) m.parts.count 0 (parts-pass m e) k (omega arith) (omega arith)))
 
-side-body : (m : Mechanism) → check_of m ≡ Accepted → (u : Surface) → RangesDrawn m.parts u → body_of_side m.parts u ≤ m.bodies.count
+side-body : (m : Mechanism) → check_of m ≡ Ok tt → (u : Surface) → RangesDrawn m.parts u → body_of_side m.parts u ≤ m.bodies.count
 side-body m e u r =
     let d = both (ltb (range_at u 0).part m.parts.count) (part_draws (part_at m.parts (range_at u 0).part) (range_at u 0)) (r.each 0 r.some) in
     part_body m e (range_at u 0).part (ltb-true (range_at u 0).part m.parts.count d.0)
 
-module _ (m : Mechanism) (e : check_of m ≡ Accepted) (i : ℕ) (h : i < m.pairs.count) where
+module _ (m : Mechanism) (e : check_of m ≡ Ok tt) (i : ℕ) (h : i < m.pairs.count) where
   pub body_a_lem : body_of_side m.parts (pair_at m.pairs i).a ≤ m.bodies.count
   body_a_lem = side-body m e (pair_at m.pairs i).a (accepted-ranges_a m e i h)
 

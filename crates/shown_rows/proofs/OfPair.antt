@@ -14,7 +14,6 @@ use Rattle.laws.proofs.Finite.{filter-length}
 use Rattle.laws.proofs.Choice.{and_yes, cond_yes}
 use Rattle.mechanism.specs.Check.{pair_drawn, check_of}
 use Rattle.mechanism.specs.Description.{pair_at}
-use Rattle.bodies.specs.declared.Checked.TheVariants.{Accepted}
 use Rattle.mechanism.specs.declared.Mechanism.{Mechanism}
 use Rattle.mechanism.proofs.Drawn.{accepted-pair-drawn}
 use Rattle.bodies.specs.declared.Bodies.{Bodies}
@@ -41,6 +40,7 @@ use Rattle.shown_rows.proofs.Agree.{places_same, values_same, grads-same, slips-
 use Rattle.pair_rows.proofs.Along.{along-long}
 use Rattle.shown_rows.proofs.AllPairs.{flat-long, AllPairs, pairs-more}
 use Rattle.shown_rows.proofs.Fits.{candidates_few, feature_a, feature_b}
+use Rattle.std.proofs.Common.{Ok}
 
 -- all candidates of a drawn pair are written where there are 784 places
 pub all-written : (ps : Parts) (o : Outlines) (q : Pose) (p : ContactPair) {n : ℕ} {near₀ near : List (List Float)} {named₀ named : List (List ℕ)} → pair_drawn ps p ≡ true → 784 ≤ length near₀ → 784 ≤ length named₀
@@ -93,7 +93,7 @@ module _ (b : Bodies) (ps : Parts) (o : Outlines) (q : Pose) (p : ContactPair) (
         }
 
 -- ---- the candidates that a call has written of pair i of an accepted description
-module _ (m : Mechanism) (e : check_of m ≡ Accepted) (i : ℕ) (h : i < m.pairs.count) (q : Pose) {n : ℕ} {near₀ near : List (List Float)} {named₀ named : List (List ℕ)} (ln : length near₀ ≡ 784) (lm : length named₀ ≡ 784)
+module _ (m : Mechanism) (e : check_of m ≡ Ok tt) (i : ℕ) (h : i < m.pairs.count) (q : Pose) {n : ℕ} {near₀ near : List (List Float)} {named₀ named : List (List ℕ)} (ln : length near₀ ≡ 784) (lm : length named₀ ≡ 784)
     (w : Written (cond (candidate_room m.parts (pair_at m.pairs i) (length near₀) (length named₀)) (pair_candidates m.parts m.outlines q (pair_at m.pairs i)) []) 0 n near₀ near named₀ named) where
   pub all_there : Written (pair_candidates m.parts m.outlines q (pair_at m.pairs i)) 0 n near₀ near named₀ named
   all_there = all-written m.parts m.outlines q (pair_at m.pairs i) (accepted-pair-drawn m e i h) (omega (arith, ln)) (omega (arith, lm)) w

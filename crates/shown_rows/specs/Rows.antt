@@ -1,5 +1,5 @@
 -- The rows of a mechanism at a pose (contact/rows.rs: hiding, margin, `push`, `rows`), with their gradients and slips. Definitions only.
-use Rattle.std.specs.Prelude.{ℕ, ◌*◌, Bool, true, not, ◌&&◌, cond, List, map, eqb, leb, length, get_or, Float}
+use Rattle.std.specs.Prelude.{ℕ, ◌*◌, Bool, true, not, ◌&&◌, cond, List, map, eqb, leb, length, get_or, Float, Result, Ok, Err}
 use Rattle.std.specs.Float.{nan}
 use Rattle.laws.specs.Lists.{flat, list_in}
 use Rattle.geometry.specs.Geometry.{vector_of}
@@ -8,8 +8,6 @@ use Rattle.mechanism.specs.Description.{pair_at}
 use Rattle.mechanism.specs.Piece.{same_piece}
 use Rattle.bodies.specs.Pose.{pose_fits}
 use Rattle.bodies.specs.declared.Bodies.{Bodies}
-use Rattle.bodies.specs.declared.Checked.{Checked}
-use Rattle.bodies.specs.declared.Checked.TheVariants.{Accepted, Refused}
 use Rattle.mechanism.specs.declared.Mechanism.{Mechanism}
 use Rattle.mechanism.specs.declared.Outlines.{Outlines}
 use Rattle.mechanism.specs.declared.Parts.{Parts}
@@ -24,7 +22,8 @@ use Rattle.showing.specs.Showing.{shown}
 use Rattle.pair_rows.specs.PairRows.{along_of, left_of}
 use Rattle.proximities.specs.declared.Candidate.{Candidate}
 use Rattle.candidates.specs.Candidates.{pair_candidates}
-use Rattle.shown_rows.specs.declared.RowsAnswer.{RowsAnswer}
+use Rattle.bodies.specs.declared.Problem.{Problem}
+use Rattle.bodies.specs.Check.{Checked}
 
 -- ---- candidates by number
 abbrev pub no_candidate : Candidate
@@ -104,11 +103,11 @@ room_for m places values grad slip =
 abbrev pub rows_checked : Mechanism → Pose → (places values grad slip : ℕ) → Checked
 rows_checked m q places values grad slip = call_checked m (pose_fits m.bodies q) true (room_for m places values grad slip)
 
-abbrev pub answer_if : Checked → ℕ → RowsAnswer
-answer_if Accepted n = record { checked = Accepted; count = n }
-answer_if (Refused p) n = record { checked = Refused p; count = 0 }
+abbrev pub answer_if : Checked → ℕ → Result ℕ Problem
+answer_if (Ok tt) n = Ok n
+answer_if (Err p) n = Err p
 
 -- what is written where the call is not refused
 abbrev pub if_accepted : {A : Type 0} → Checked → List A → List A → List A
-if_accepted Accepted written before = written
-if_accepted (Refused p) written before = before
+if_accepted (Ok tt) written before = written
+if_accepted (Err p) written before = before

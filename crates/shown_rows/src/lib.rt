@@ -1,36 +1,26 @@
 // The rows of a mechanism at a pose (contact/rows.rs: hiding, margin, `push`, `rows`), with their gradients and slips, into lent arrays.
 #![tactic(auto)]
 
-ghost use Rattle.std.specs.Prelude.{◌≡◌, true, map, ◌+◌, ◌*◌, ◌<◌, ◌≤◌, length};
+ghost use Rattle.std.specs.Prelude.{◌≡◌, true, map, ◌+◌, ◌*◌, ◌≤◌, length};
 ghost use Rattle.std.proofs.lemmas.List.Edits.{sets};
 ghost use Rattle.mechanism.specs.Check.{check_of, pair_drawn};
 ghost use Rattle.mechanism.specs.Rows.{place_row, value_row};
-ghost use Rattle.bodies.specs.declared.Checked.TheVariants.{Accepted, Refused};
 ghost use Rattle.sides.specs.Bounds.{row_bound};
 ghost use Rattle.sides.specs.Contacts.{pair_features, mechanism_bound};
 ghost use Rattle.pair_rows.specs.PairRows.{Put, Room};
 ghost use Rattle.shown_rows.specs.Rows.{rows_of, grads_of, slips_of, rows_checked, answer_if, if_accepted};
 
-use bodies::pose::{Column, Columns, Pose, columns_at};
-use bodies::{Bodies, Checked, Problem};
+use bodies::Problem;
+use bodies::pose::Pose;
 use candidates::pair_candidates;
 use drawing::body_of_side;
-use geometry::Point;
-use ieee::num::is_nan;
 use mechanism::check::call_checked;
-use mechanism::pair::{ContactPair, PairGeometry, Surface};
+use mechanism::pair::{ContactPair, PairGeometry};
 use mechanism::rows::{Place, Value};
-use mechanism::{Mechanism, Outlines, Pairs, Parts};
+use mechanism::{Mechanism, Outlines, Parts};
 use pair_rows::{Source, put_shown};
 use sides::SideFeatures;
-use sides::contacts::{PairFeatures, pair_features_at};
-
-// How many rows were written, or the first refusal that applies.
-#[derive(Clone, Copy)]
-pub struct RowsAnswer {
-    pub checked: Checked,
-    pub count: usize,
-}
+use sides::contacts::pair_features_at;
 
 // Writes the rows of all pairs of an accepted description.
 fn put_rows(
@@ -42,38 +32,30 @@ fn put_rows(
     q: Pose,
     margin: f64,
 ) -> usize
-    requires { (check_of m ≡ Accepted) × Room m.bodies.coords 0 (mechanism_bound m) places.old values.old grad.old slip.old }
+    requires { (check_of m ≡ Ok tt) × Room m.bodies.coords 0 (mechanism_bound m) places.old values.old grad.old slip.old }
     ensures { Put m.bodies.coords (map place_row (rows_of m q margin)) (map value_row (rows_of m q margin)) (grads_of m q margin) (slips_of m q margin) 0 result places.old places.new values.old values.new grad.old grad.new slip.old slip.new }
 {
     let mut near = [[0.0; 5]; 784];
-    let mut named = [[0usize; 7]; 784];
-    let bodies = m.bodies;
-    let ps = m.parts;
-    let o = m.outlines;
-    let pairs = m.pairs;
-    let count = pairs.count;
-    let mut at: usize = 0;
-    let mut i: usize = 0;
-    while i < count {
-        let p = pairs.pair[i];
-        let a = p.a;
-        let b = p.b;
+    let mut named = [[0; 7]; 784];
+    let mut at = 0;
+    for i in 0..m.pairs.count {
+        let p = m.pairs.pair[i];
         let s = Source {
             pair: i,
-            a: body_of_side(ps, a),
-            b: body_of_side(ps, b),
+            a: body_of_side(m.parts, p.a),
+            b: body_of_side(m.parts, p.b),
         };
-        let n = pair_candidates(&mut near, &mut named, ps, o, q, p);
+        let n = pair_candidates(&mut near, &mut named, m.parts, m.outlines, q, p);
         at = put_shown(
-            places, values, grad, slip, at, s, &near, &named, n, margin, bodies, q,
+            places, values, grad, slip, at, s, &near, &named, n, margin, m.bodies, q,
         );
-        i += 1;
     }
     at
 }
 
 // ---- the bound
 
+#[tactic(auto, using(crate::proofs::Bound::products_small))]
 fn bound_by(g: PairGeometry, a: SideFeatures, b: SideFeatures) -> usize
     requires { (a.faces ≤ 12) × (a.discs ≤ 28) × (b.faces ≤ 12) × (b.discs ≤ 28) }
     ensures { result ≡ row_bound g a b }
@@ -89,27 +71,17 @@ fn pair_bound(ps: Parts, o: Outlines, p: ContactPair) -> usize
     ensures { result ≡ row_bound p.geometry (pair_features ps o p).a (pair_features ps o p).b }
 {
     let f = pair_features_at(ps, o, p);
-    let a = f.a;
-    let b = f.b;
-    let g = p.geometry;
-    bound_by(g, a, b)
+    bound_by(p.geometry, f.a, f.b)
 }
 
 // The sum of the pairs' bounds.
 fn bound_of(m: Mechanism) -> usize
-    requires { check_of m ≡ Accepted }
+    requires { check_of m ≡ Ok tt }
     ensures { (result ≡ mechanism_bound m) × (result ≤ 12544) }
 {
-    let ps = m.parts;
-    let o = m.outlines;
-    let pairs = m.pairs;
-    let n = pairs.count;
-    let mut sum: usize = 0;
-    let mut i: usize = 0;
-    while i < n {
-        let x = pairs.pair[i];
-        sum += pair_bound(ps, o, x);
-        i += 1;
+    let mut sum = 0;
+    for i in 0..m.pairs.count {
+        sum += pair_bound(m.parts, m.outlines, m.pairs.pair[i]);
     }
     sum
 }
@@ -122,35 +94,19 @@ pub fn rows_checked(
     values: usize,
     grad: usize,
     slip: usize,
-) -> Checked
+) -> Result<(), Problem>
     ensures { result ≡ rows_checked m q places values grad slip }
 {
-    let bodies = m.bodies;
-    let c = call_checked(m, q.fits(bodies), true, true);
-    match c {
-        Checked::Refused(p) => Checked::Refused(p),
-        Checked::Accepted => {
-            let bound = bound_of(m);
-            let columns = bound * bodies.coords;
-            if ((bound <= places) & (bound <= values)) & ((columns <= grad) & (columns <= slip)) {
-                return Checked::Accepted;
-            }
-            Checked::Refused(Problem::TooFewRows)
-        }
+    call_checked(m, q.fits(m.bodies), true, true)?;
+    let bound = bound_of(m);
+    let columns = bound * m.bodies.coords;
+    if ((bound <= places) & (bound <= values)) & ((columns <= grad) & (columns <= slip)) {
+        return Ok(());
     }
+    Err(Problem::TooFewRows)
 }
 
-// The answer of a call that is refused.
-pub fn refused(p: Problem) -> RowsAnswer
-    ensures { result ≡ answer_if (Refused p) 0 }
-{
-    RowsAnswer {
-        checked: Checked::Refused(p),
-        count: 0,
-    }
-}
-
-// Writes the rows of every pair whose gap is not above the margin, with their gradients and slips, one float a coordinate each; everything past the last row stays.
+// Writes the rows of every pair whose gap is not above the margin, with their gradients and slips, one float a coordinate each, and answers how many; everything past the last row stays.
 pub fn rows_in_numbers(
     m: Mechanism,
     q: Pose,
@@ -159,22 +115,13 @@ pub fn rows_in_numbers(
     values: &mut [Value],
     grad: &mut [f64],
     slip: &mut [f64],
-) -> RowsAnswer
+) -> Result<usize, Problem>
     ensures value { result ≡ answer_if (rows_checked m q (length places.old) (length values.old) (length grad.old) (length slip.old)) (length (rows_of m q margin)) }
     ensures places_after { places.new ≡ if_accepted (rows_checked m q (length places.old) (length values.old) (length grad.old) (length slip.old)) (sets places.old 0 (map place_row (rows_of m q margin))) places.old }
     ensures values_after { values.new ≡ if_accepted (rows_checked m q (length places.old) (length values.old) (length grad.old) (length slip.old)) (sets values.old 0 (map value_row (rows_of m q margin))) values.old }
     ensures grad_after { grad.new ≡ if_accepted (rows_checked m q (length places.old) (length values.old) (length grad.old) (length slip.old)) (sets grad.old 0 (grads_of m q margin)) grad.old }
     ensures slip_after { slip.new ≡ if_accepted (rows_checked m q (length places.old) (length values.old) (length grad.old) (length slip.old)) (sets slip.old 0 (slips_of m q margin)) slip.old }
 {
-    let c = rows_checked(m, q, places.len(), values.len(), grad.len(), slip.len());
-    match c {
-        Checked::Refused(p) => refused(p),
-        Checked::Accepted => {
-            let n = put_rows(places, values, grad, slip, m, q, margin);
-            RowsAnswer {
-                checked: Checked::Accepted,
-                count: n,
-            }
-        }
-    }
+    rows_checked(m, q, places.len(), values.len(), grad.len(), slip.len())?;
+    Ok(put_rows(places, values, grad, slip, m, q, margin))
 }

@@ -9,7 +9,6 @@ use Rattle.laws.proofs.Choice.{neither, both, not_yes}
 use Rattle.laws.proofs.Sums.{sum-part}
 use Rattle.mechanism.specs.Check.{parts_over, side_over, part_draws, range_drawn, check_of, side_drawn, pair_drawn, FewParts}
 use Rattle.mechanism.specs.Description.{part_at, pair_at, range_at, range_length, side_length}
-use Rattle.bodies.specs.declared.Checked.TheVariants.{Accepted}
 use Rattle.mechanism.specs.declared.Mechanism.{Mechanism}
 use Rattle.mechanism.specs.declared.Parts.{Parts}
 use Rattle.mechanism.specs.declared.pair.ContactPair.{ContactPair}
@@ -18,6 +17,7 @@ use Rattle.mechanism.proofs.Checks.{accepted-sides, within-limits}
 use Rattle.mechanism.proofs.Drawn.{RangesDrawn, side-ranges, accepted-ranges_a, accepted-ranges_b}
 use Rattle.sides.specs.Bounds.{DrawnRange, DrawnSide}
 use Rattle.sides.specs.Contacts.{DrawnPairs}
+use Rattle.std.proofs.Common.{Ok}
 
 module _ (ps : Parts) (u : Surface) where
   drawn-range : (k : ℕ) → k < u.count → side_length u ≤ 12 → range_drawn ps (range_at u k) ≡ true → DrawnRange ps (range_at u k)
@@ -44,7 +44,7 @@ module _ (ps : Parts) (u : Surface) where
         few = few;
       }
 
-pub accepted-drawn : (m : Mechanism) → check_of m ≡ Accepted → DrawnPairs m.parts m.pairs
+pub accepted-drawn : (m : Mechanism) → check_of m ≡ Ok tt → DrawnPairs m.parts m.pairs
 accepted-drawn m e = record {
   a = λ i h. drawn-side m.parts (pair_at m.pairs i).a (accepted-ranges_a m e i h) (accepted-sides m e i h).0;
   b = λ i h. drawn-side m.parts (pair_at m.pairs i).b (accepted-ranges_b m e i h) (accepted-sides m e i h).1;

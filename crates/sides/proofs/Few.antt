@@ -14,7 +14,6 @@ use Rattle.geometry.specs.declared.Seg.{Seg}
 use Rattle.geometry.specs.declared.Seg.TheVariants.{Line, Arc}
 use Rattle.mechanism.specs.Check.{check_of}
 use Rattle.mechanism.specs.Description.{sum_in, pair_at}
-use Rattle.bodies.specs.declared.Checked.TheVariants.{Accepted}
 use Rattle.mechanism.specs.declared.Mechanism.{Mechanism}
 use Rattle.mechanism.specs.declared.Outlines.{Outlines}
 use Rattle.mechanism.specs.declared.Parts.{Parts}
@@ -23,12 +22,6 @@ use Rattle.mechanism.specs.declared.pair.ContactPair.{ContactPair}
 use Rattle.mechanism.specs.declared.pair.PairGeometry.{PairGeometry}
 use Rattle.mechanism.specs.declared.pair.PairGeometry.TheVariants.{Features, CenterBearing}
 use Rattle.mechanism.specs.declared.pair.Surface.{Surface}
-use Rattle.corners.specs.declared.MaybeSeg.{MaybeSeg}
-use Rattle.corners.specs.declared.MaybeSeg.TheVariants.{NoSeg, SomeSeg}
-use Rattle.corners.specs.declared.MaybeFace.{MaybeFace}
-use Rattle.corners.specs.declared.MaybeFace.TheVariants.{NoFace, SomeFace}
-use Rattle.corners.specs.declared.MaybeDisc.{MaybeDisc}
-use Rattle.corners.specs.declared.MaybeDisc.TheVariants.{NoDisc, SomeDisc}
 use Rattle.sides.specs.declared.PlacedFace.{PlacedFace}
 use Rattle.sides.specs.declared.SideFeatures.{SideFeatures}
 use Rattle.corners.specs.Corners.{face_of, arc_of, corner_of}
@@ -38,6 +31,9 @@ use Rattle.sides.specs.Contacts.{center_of_b, pair_features, pair_bound, mechani
 use Rattle.sides.specs.Sizes.{FewOnSide, FewFeatures, Sized}
 use Rattle.sides.proofs.Sizes.{drawn-runs}
 use Rattle.sides.proofs.Accepted.{accepted-drawn}
+use Rattle.std.proofs.Common.{Option, Some, None, Ok}
+use Rattle.geometry.specs.declared.signed.Disc.{Disc}
+use Rattle.geometry.specs.declared.signed.Face.{Face}
 
 -- ---- joined lists
 join_few : {A B : Type 0} (f : ℕ → List A) (g : ℕ → List B) (b : ℕ → ℕ) → ((i : ℕ) → length (f i) + length (g i) ≤ b i) → (k : ℕ) → length (join_in f k 0) + length (join_in g k 0) ≤ sum_in b k 0
@@ -68,13 +64,13 @@ sum-twos zero = sum-none (λ i. 2)
 sum-twos (suc k) = let h = sum-twos k in let n = sum-next (λ i. 2) k in omega arith
 
 -- ---- one step
-face-few : (p : Piece) (m : MaybeFace) → length (placed_face p m) ≤ 1
-face-few p NoFace = omega arith
-face-few p (SomeFace f) = omega arith
+face-few : (p : Piece) (m : Option Face) → length (placed_face p m) ≤ 1
+face-few p None = omega arith
+face-few p (Some f) = omega arith
 
-pub disc_few : (p : Piece) (m : MaybeDisc) → length (placed_disc p m) ≤ 1
-disc_few p NoDisc = omega arith
-disc_few p (SomeDisc d) = omega arith
+pub disc_few : (p : Piece) (m : Option Disc) → length (placed_disc p m) ≤ 1
+disc_few p None = omega arith
+disc_few p (Some d) = omega arith
 
 -- a segment gives a face or an arc's disc, never both
 one_of : (p q : Piece) (cut : Bool) (g : Seg) → length (placed_face p (face_of g)) + length (placed_disc q (arc_of cut g)) ≤ 1
@@ -84,23 +80,23 @@ one_of p q false (Line a b) = let h = face-few p (face_of (Line a b)) in omega a
 one_of p q true (Arc c r from to) = omega arith
 one_of p q false (Arc c r from to) = omega arith
 
-seg-few : (part named starts : ℕ) (cut : Bool) (previous m : MaybeSeg) → length (faces_of_seg part named m) + length (discs_of_seg part cut named starts previous m) ≤ 2
-seg-few part named starts cut previous NoSeg = omega arith
-seg-few part named starts cut previous (SomeSeg g) =
+seg-few : (part named starts : ℕ) (cut : Bool) (previous m : Option Seg) → length (faces_of_seg part named m) + length (discs_of_seg part cut named starts previous m) ≤ 2
+seg-few part named starts cut previous None = omega arith
+seg-few part named starts cut previous (Some g) =
     let a = one_of (Piece.Segment part named) (Piece.Arc part named) cut g in
     let b = disc_few (Piece.Vertex part starts) (corner_of previous g) in
     let e = length-append (placed_disc (Piece.Arc part named) (arc_of cut g)) (placed_disc (Piece.Vertex part starts) (corner_of previous g)) in
     omega arith
 
-seg-face-few : (part named : ℕ) (m : MaybeSeg) → length (faces_of_seg part named m) ≤ 1
-seg-face-few part named NoSeg = omega arith
-seg-face-few part named (SomeSeg g) = face-few (Piece.Segment part named) (face_of g)
+seg-face-few : (part named : ℕ) (m : Option Seg) → length (faces_of_seg part named m) ≤ 1
+seg-face-few part named None = omega arith
+seg-face-few part named (Some g) = face-few (Piece.Segment part named) (face_of g)
 
-chosen : (b : Bool) (p : Piece) (m : MaybeDisc) → length (cond b [] (placed_disc p m)) ≤ 1
+chosen : (b : Bool) (p : Piece) (m : Option Disc) → length (cond b [] (placed_disc p m)) ≤ 1
 chosen true p m = omega arith
 chosen false p m = disc_few p m
 
-end-few : (t : Run) (next : MaybeSeg) → length (end_discs t next) ≤ 1
+end-few : (t : Run) (next : Option Seg) → length (end_discs t next) ≤ 1
 unfolding end_discs
 end-few t next = chosen (meets (last_seg t) next || t.wrapped) (Piece.Vertex t.part t.ends) (between (last_seg t) t.after)
 
@@ -120,7 +116,7 @@ faces_few t i =
     let n = sum_ones i in
     omega arith
 
-pub steps_few : (t : Run) (first : MaybeSeg) (i : ℕ) → length (join_in (step_faces t) i 0) + length (join_in (step_discs t first) i 0) ≤ i + i
+pub steps_few : (t : Run) (first : Option Seg) (i : ℕ) → length (join_in (step_faces t) i 0) + length (join_in (step_discs t first) i 0) ≤ i + i
 unfolding step_discs
 steps_few t first i =
     let h = join_few (step_faces t) (step_discs t first) (λ j. 2) (λ j. seg-few t.part (step_at t j).named (step_at t j).starts t.cut (previous_at t first j) (step_at t j).seg) i in
@@ -128,7 +124,7 @@ steps_few t first i =
     omega arith
 
 -- ---- a range, and a side
-range-few : (t : Run) (last next : MaybeSeg) → length (range_faces t) + length (range_discs t last next) ≤ t.count + t.count + 1
+range-few : (t : Run) (last next : Option Seg) → length (range_faces t) + length (range_discs t last next) ≤ t.count + t.count + 1
 unfolding range_faces range_discs end_discs
 range-few t last next =
     let h = steps_few t (opening t last) t.count in
@@ -192,7 +188,7 @@ pair-few ps o p d e =
     record { a = a; b = b; rows = bound-few p.geometry (side_of ps o p.a false) (side_of ps o p.b (center_of_b p.geometry)) a b }
 
 -- of every pair of an accepted description: document 01's limits of its sides, and of its rows
-pub accepted-few-features : (m : Mechanism) → check_of m ≡ Accepted → (i : ℕ) → i < m.pairs.count
+pub accepted-few-features : (m : Mechanism) → check_of m ≡ Ok tt → (i : ℕ) → i < m.pairs.count
     → FewFeatures (pair_at m.pairs i).geometry (pair_features m.parts m.outlines (pair_at m.pairs i))
 accepted-few-features m e i h = pair-few m.parts m.outlines (pair_at m.pairs i) ((accepted-drawn m e).a i h) ((accepted-drawn m e).b i h)
 
@@ -207,9 +203,9 @@ bounds-upto f (suc k) h =
     omega (arith, r, b, e)
 
 -- at most 784 rows a pair
-pub accepted-bound : (m : Mechanism) → check_of m ≡ Accepted → mechanism_bound m ≤ 784 * m.pairs.count
+pub accepted-bound : (m : Mechanism) → check_of m ≡ Ok tt → mechanism_bound m ≤ 784 * m.pairs.count
 unfolding mechanism_bound
 accepted-bound m e = bounds-upto (pair_bound m) m.pairs.count (λ i h. (accepted-few-features m e i h).rows)
 
-pub accepted-sized : (m : Mechanism) → check_of m ≡ Accepted → Sized m
+pub accepted-sized : (m : Mechanism) → check_of m ≡ Ok tt → Sized m
 accepted-sized m e = record { pair = λ i h. accepted-few-features m e i h; bound = accepted-bound m e }

@@ -3,8 +3,8 @@ use Prim.Native.Nat.{ℕ, ◌+◌}
 use native.Mathlib.Nat.{add-zero, zero-add}
 use native.Mathlib.Omega.{arith}
 use mathlib.Core.Path.{◌≡◌, refl, sym, ap, ap₂, subst₂, ◌∙◌}
-use mathlib.Core.List.{List, [], ◌∷◌, ◌++◌}
-use lib.ListN.{length, set, replicate, length-append}
+use mathlib.Core.List.{List, [], ◌++◌}
+use lib.ListN.{length, replicate, length-append}
 use lib.Seq.{sets}
 use Rattle.laws.specs.Fill.{filled}
 use Rattle.laws.proofs.Writing.{sets-append}
@@ -36,12 +36,6 @@ grown-then {f} {g} {r} {fs} {fs'} {ds} {ds'} v w = record {
   more_faces = then-count f.faces g.faces r.faces fs fs' v.more_faces w.more_faces;
   more_discs = then-count f.discs g.discs r.discs ds ds' v.more_discs w.more_discs;
 }
-
-pub push-face : (f : Features) (x : PlacedFace) → Grown f (record { faces = f.faces + 1; face = set f.face f.faces x; discs = f.discs; disc = f.disc }) (x ∷ []) []
-push-face f x = record { all_faces = refl; all_discs = refl; more_faces = refl; more_discs = sym (add-zero f.discs) }
-
-pub push-disc : (f : Features) (x : PlacedDisc) → Grown f (record { faces = f.faces; face = f.face; discs = f.discs + 1; disc = set f.disc f.discs x }) [] (x ∷ [])
-push-disc f x = record { all_faces = refl; all_discs = refl; more_faces = sym (add-zero f.faces); more_discs = refl }
 
 -- all of them, where there were none at first
 pub grown-all : {f r : Features} {fs fs' : List PlacedFace} {ds ds' : List PlacedDisc} → (f.faces ≡ 0) × (f.discs ≡ 0) × (f.face ≡ replicate 12 no_face) × (f.disc ≡ replicate 28 no_disc) → fs ≡ fs' → ds ≡ ds' → Grown f r fs ds

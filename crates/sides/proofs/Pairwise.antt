@@ -9,12 +9,11 @@ use Rattle.laws.specs.Loops.{Writing}
 use Rattle.laws.proofs.Fill.{map-drop}
 use Rattle.laws.proofs.Writing.{starts, ends}
 use Rattle.mechanism.specs.Description.{pair_at, no_pair}
-use Rattle.bodies.specs.declared.Checked.TheVariants.{Accepted}
 use Rattle.mechanism.specs.declared.Outlines.{Outlines}
 use Rattle.mechanism.specs.declared.Pairs.{Pairs}
 use Rattle.mechanism.specs.declared.Parts.{Parts}
 use Rattle.silhouette.proofs.Walks.{up_done}
-use Rattle.sides.specs.Contacts.{pair_features, no_pair_features, contacts_if}
+use Rattle.sides.specs.Contacts.{pair_features, no_pair_features, all_contacts}
 use Rattle.sides.specs.declared.contacts.PairFeatures.{PairFeatures}
 use Rattle.sides.specs.declared.contacts.Contacts.{Contacts}
 
@@ -37,7 +36,7 @@ module _ (ps : Parts) (o : Outlines) (pairs : Pairs) where
       ∙ ap (λ (x : PairFeatures). x ∷ pairs_from ps o pairs (i + 1)) (ap (pair_features ps o) (get_or-take pairs.count pairs.pair i no_pair h) ∙ sym e)
 
   pub pairs_end : (i : ℕ) {all : List PairFeatures} → pairs.count ≤ length pairs.pair → pairs.count ≤ i → PairsWritten ps o pairs all i
-      → ◌≡◌ {A = Contacts} (record { checked = Accepted; count = pairs.count; pair = all }) (contacts_if Accepted ps o pairs)
+      → ◌≡◌ {A = Contacts} (record { count = pairs.count; pair = all }) (all_contacts ps o pairs)
   pairs_end i l h w =
       let e = up_done pairs.count i (take pairs.count pairs.pair) (length-take-le pairs.count pairs.pair l) h in
-      ap (λ (x : List PairFeatures). record { checked = Accepted; count = pairs.count; pair = x }) (ends (ap (map (pair_features ps o)) e) w)
+      ap (λ (x : List PairFeatures). record { count = pairs.count; pair = x }) (ends (ap (map (pair_features ps o)) e) w)

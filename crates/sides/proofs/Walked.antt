@@ -22,31 +22,29 @@ use Rattle.mechanism.specs.declared.part.SurfaceRef.{SurfaceRef}
 use Rattle.silhouette.specs.Silhouette.{seg_of, segs_in}
 use Rattle.silhouette.specs.declared.SilhouetteSegs.{SilhouetteSegs}
 use Rattle.silhouette.proofs.Walks.{held_at, held-long}
-use Rattle.sides.specs.declared.MaybePoint.TheVariants.{NoPoint, SomePoint}
-use Rattle.corners.specs.declared.MaybeSeg.{MaybeSeg}
-use Rattle.corners.specs.declared.MaybeSeg.TheVariants.{NoSeg, SomeSeg}
 use Rattle.sides.specs.declared.Step.{Step}
 use Rattle.sides.specs.declared.Steps.{Steps}
 use Rattle.sides.specs.declared.Traversal.{Traversal}
 use Rattle.sides.specs.declared.Traversals.{Traversals}
 use Rattle.corners.specs.Corners.{run_back}
 use Rattle.sides.specs.Features.{Run, forward_step, backward_step, seg_in, run_of, runs_in, run_at, step_at, no_step, steps_in, forward_of, backward_of, crossing_of}
+use Rattle.std.proofs.Common.{Option, Some, None}
 
 module _ (sil : SilhouetteSegs) (i : ℕ) (l : sil.count ≤ length sil.seg) (h : i < sil.count) where
   seg-held : seg_in (segs_in sil) i ≡ seg_of (get_or sil.seg i no_seg)
   seg-held = held_at sil.count sil.seg i l h
 
-  pub forward_at : forward_step (segs_in sil) i ≡ record { named = i % sil.count; starts = i % sil.count; seg = SomeSeg (seg_of (get_or sil.seg i no_seg)) }
+  pub forward_at : forward_step (segs_in sil) i ≡ record { named = i % sil.count; starts = i % sil.count; seg = Some (seg_of (get_or sil.seg i no_seg)) }
   forward_at = simp (held-long sil.count sil.seg l, seg-held)
 
-  pub backward_at : (m : MaybeSeg) → m ≡ run_back (seg_of (get_or sil.seg i no_seg)) → backward_step (segs_in sil) i ≡ record { named = i % sil.count; starts = (i + 1) % sil.count; seg = m }
+  pub backward_at : (m : Option Seg) → m ≡ run_back (seg_of (get_or sil.seg i no_seg)) → backward_step (segs_in sil) i ≡ record { named = i % sil.count; starts = (i + 1) % sil.count; seg = m }
   backward_at m e = simp (held-long sil.count sil.seg l, seg-held, e)
 
 pub step-at : (t : Traversal) (i : ℕ) → i < t.count → step_at (run_of t) i ≡ get_or t.steps i no_step
 step-at t i h = get_or-take t.count t.steps i no_step h
 
 abbrev pub no_traversal : Traversal
-no_traversal = record { part = 0; cut = false; count = 0; steps = []; before = NoSeg; after = NoSeg; wrapped = false; ends = 0 }
+no_traversal = record { part = 0; cut = false; count = 0; steps = []; before = None; after = None; wrapped = false; ends = 0 }
 
 pub run_at_lem : (ts : Traversals) (j : ℕ) → j < ts.count → run_at (runs_in ts) j ≡ run_of (get_or ts.traversal j no_traversal)
 run_at_lem ts j h = get_or-map run_of (take ts.count ts.traversal) j no_traversal ∙ ap run_of (get_or-take ts.count ts.traversal j no_traversal h)
@@ -55,7 +53,7 @@ pub runs_count : (ts : Traversals) → ts.count ≤ length ts.traversal → leng
 runs_count ts h = length-map (take ts.count ts.traversal) run_of ∙ length-take-le ts.count ts.traversal h
 
 -- a run by its fields
-run_by : (part : ℕ) (cut : Bool) {n n' : ℕ} {steps steps' : List Step} {before before' after after' : MaybeSeg} {wrapped wrapped' : Bool} {ends ends' : ℕ}
+run_by : (part : ℕ) (cut : Bool) {n n' : ℕ} {steps steps' : List Step} {before before' after after' : Option Seg} {wrapped wrapped' : Bool} {ends ends' : ℕ}
     → n ≡ n' → steps ≡ steps' → before ≡ before' → after ≡ after' → wrapped ≡ wrapped' → ends ≡ ends'
     → ◌≡◌ {A = Run} (record { part = part; cut = cut; count = n; steps = steps; before = before; after = after; wrapped = wrapped; ends = ends })
     (record { part = part; cut = cut; count = n'; steps = steps'; before = before'; after = after'; wrapped = wrapped'; ends = ends' })
@@ -78,15 +76,15 @@ module _ (r : SurfaceRef) (sil : SilhouetteSegs) (s : Steps) (l : sil.count ≤ 
         cut = false;
         count = s.count;
         steps = steps_in s;
-        before = SomeSeg (seg_of (get_or sil.seg ((r.start + sil.count - 1) % sil.count) no_seg));
-        after = SomeSeg (seg_of (get_or sil.seg (r.end % sil.count) no_seg));
+        before = Some (seg_of (get_or sil.seg ((r.start + sil.count - 1) % sil.count) no_seg));
+        after = Some (seg_of (get_or sil.seg (r.end % sil.count) no_seg));
         wrapped = eqb (r.end - r.start) sil.count;
         ends = r.end % sil.count;
       }) (forward_of r (segs_in sil))
   unfolding forward_of
-  forward_run e = run_by r.part false count e (ap SomeSeg (sym at_before)) (ap SomeSeg (sym at_after)) (ap (eqb (r.end - r.start)) (sym long)) (ap (λ (n : ℕ). r.end % n) (sym long))
+  forward_run e = run_by r.part false count e (ap Some (sym at_before)) (ap Some (sym at_after)) (ap (eqb (r.end - r.start)) (sym long)) (ap (λ (n : ℕ). r.end % n) (sym long))
 
-  pub backward_run : (b a : MaybeSeg) → steps_in s ≡ map (backward_step (segs_in sil)) (reverse (range r.start r.end))
+  pub backward_run : (b a : Option Seg) → steps_in s ≡ map (backward_step (segs_in sil)) (reverse (range r.start r.end))
       → b ≡ run_back (seg_of (get_or sil.seg (r.end % sil.count) no_seg)) → a ≡ run_back (seg_of (get_or sil.seg ((r.start + sil.count - 1) % sil.count) no_seg))
       → ◌≡◌ {A = Run} (record { part = r.part; cut = true; count = s.count; steps = steps_in s; before = b; after = a; wrapped = eqb (r.end - r.start) sil.count; ends = r.start }) (backward_of r (segs_in sil))
   unfolding backward_of
@@ -100,7 +98,7 @@ module _ (axis : Float) (l : List Seg) (i past : ℕ) where
   starts-turn : {q : Point} → i < past → q ≡ start_of (seg_in l i) → starts l i past ≡ q ∷ starts l (i + 1) past
   starts-turn h e = ap (map (λ j. start_of (seg_in l j))) (range-turn i past h) ∙ ap (λ (p : Point). p ∷ starts l (i + 1) past) (sym e)
 
-  pub cross_hit : {q : Point} → i < past → q ≡ start_of (seg_in l i) → same_of q.x axis ≡ true → SomePoint q ≡ crossing_of axis (starts l i past)
+  pub cross_hit : {q : Point} → i < past → q ≡ start_of (seg_in l i) → same_of q.x axis ≡ true → Some q ≡ crossing_of axis (starts l i past)
   unfolding crossing_of
   cross_hit h e t = sym (ap (crossing_of axis) (starts-turn h e) ∙ cond_yes _ _ t)
 
@@ -108,7 +106,7 @@ module _ (axis : Float) (l : List Seg) (i past : ℕ) where
   unfolding crossing_of
   cross_miss h e t = sym (ap (crossing_of axis) (starts-turn h e) ∙ cond_no _ _ t)
 
-  pub cross_none : past ≤ i → NoPoint ≡ crossing_of axis (starts l i past)
+  pub cross_none : past ≤ i → None ≡ crossing_of axis (starts l i past)
   unfolding crossing_of
   cross_none h = sym (ap (λ (m : List ℕ). crossing_of axis (map (λ j. start_of (seg_in l j)) m)) (range-done i past h))
 

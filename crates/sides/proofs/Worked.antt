@@ -17,11 +17,11 @@ use Rattle.mechanism.specs.declared.part.Role.TheVariants.{Solid, Cut}
 use Rattle.mechanism.specs.declared.part.Sweep.TheVariants.{Revolved}
 use Rattle.mechanism.specs.declared.part.SurfaceRef.{SurfaceRef}
 use Rattle.silhouette.specs.Silhouette.{silhouette_of, chain_of, about_axis}
-use Rattle.silhouette.specs.declared.MaybeAxis.TheVariants.{SomeAxis, NoAxis}
 use Rattle.sides.specs.declared.PlacedFace.{PlacedFace}
 use Rattle.sides.specs.declared.PlacedDisc.{PlacedDisc}
 use Rattle.corners.specs.Corners.{face_of, vertex_of, ends_normals, normal_of, convex_of}
 use Rattle.sides.specs.Features.{Run, traverse_of, forward_of, backward_of, faces_of, discs_of, range_faces, range_discs, step_discs, end_discs, crossing_of, center_of}
+use Rattle.std.proofs.Common.{Some, None}
 
 abbrev three_f : Float
 three_f = of_bits binary64 0x4008_0000_0000_0000
@@ -125,15 +125,15 @@ abbrev rod : List Seg
 rod = silhouette_of (Revolved two_f) square
 
 -- from its top's right end round to its left foot: the top crosses the axis at (2,1)
-rod-center : center_of true (SomeAxis two_f) rod (of 0 2 5) rod (of 0 2 5) ≡ point two_f one_f
+rod-center : center_of true (Some two_f) rod (of 0 2 5) rod (of 0 2 5) ≡ point two_f one_f
 unfolding center_of crossing_of silhouette_of chain_of about_axis indexes of_bits add sub mul div lt eq neg is_nan to_bits
 rod-center = refl
 
 -- where the centre on the axis is not asked for, or there is no axis: the middle of the chord from (3,1) to (1,0)
-rod-middle : center_of false (SomeAxis two_f) rod (of 0 2 5) rod (of 0 2 5) ≡ point two_f half_f
+rod-middle : center_of false (Some two_f) rod (of 0 2 5) rod (of 0 2 5) ≡ point two_f half_f
 unfolding center_of silhouette_of chain_of about_axis indexes of_bits add sub mul div lt eq neg is_nan to_bits
 rod-middle = refl
 
-no_axis_middle : center_of true NoAxis rod (of 0 2 5) rod (of 0 2 5) ≡ point two_f half_f
+no_axis_middle : center_of true None rod (of 0 2 5) rod (of 0 2 5) ≡ point two_f half_f
 unfolding center_of silhouette_of chain_of about_axis indexes of_bits add sub mul div lt eq neg is_nan to_bits
 no_axis_middle = refl

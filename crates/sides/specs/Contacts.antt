@@ -1,10 +1,8 @@
 -- `PairFeatures::of` (contact/features.rs) and `with_contacts` (mechanism/mod.rs): the features of every side of an accepted description. Definitions only.
-use Rattle.std.specs.Prelude.{ℕ, ◌<◌, Bool, true, false, cond, [], map, take}
+use Rattle.std.specs.Prelude.{ℕ, ◌<◌, Bool, true, false, cond, [], map, take, Result, Ok, Err}
 use Rattle.laws.specs.Fill.{filled}
 use Rattle.mechanism.specs.Check.{check_of, pair_drawn}
 use Rattle.mechanism.specs.Description.{sum_in, pair_at}
-use Rattle.bodies.specs.declared.Checked.{Checked}
-use Rattle.bodies.specs.declared.Checked.TheVariants.{Accepted, Refused}
 use Rattle.mechanism.specs.declared.Mechanism.{Mechanism}
 use Rattle.mechanism.specs.declared.Outlines.{Outlines}
 use Rattle.mechanism.specs.declared.Pairs.{Pairs}
@@ -17,6 +15,8 @@ use Rattle.sides.specs.Features.{side_from, side_of, no_point}
 use Rattle.sides.specs.Bounds.{row_bound, DrawnSide}
 use Rattle.sides.specs.declared.contacts.PairFeatures.{PairFeatures}
 use Rattle.sides.specs.declared.contacts.Contacts.{Contacts}
+use Rattle.bodies.specs.declared.Problem.{Problem}
+use Rattle.bodies.specs.Check.{Checked}
 
 -- side B's centre is asked for where it is read
 abbrev pub center_of_b : PairGeometry → Bool
@@ -33,12 +33,16 @@ no_pair_features = record { a = side_from 0 [] [] (Piece.Center 0) no_point; b =
 unfoldable pub pair_features_at : Parts → Outlines → ContactPair → PairFeatures
 pair_features_at ps o p = cond (pair_drawn ps p) (pair_features ps o p) no_pair_features
 
--- the features pair by pair, or the first refusal and none
-abbrev pub contacts_if : Checked → Parts → Outlines → Pairs → Contacts
-contacts_if Accepted ps o pairs = record { checked = Accepted; count = pairs.count; pair = filled 16 no_pair_features (map (pair_features ps o) (take pairs.count pairs.pair)) }
-contacts_if (Refused p) ps o pairs = record { checked = Refused p; count = 0; pair = filled 16 no_pair_features [] }
+-- the features pair by pair
+abbrev pub all_contacts : Parts → Outlines → Pairs → Contacts
+all_contacts ps o pairs = record { count = pairs.count; pair = filled 16 no_pair_features (map (pair_features ps o) (take pairs.count pairs.pair)) }
 
-unfoldable pub contacts_of : Mechanism → Contacts
+-- those, or the first refusal
+abbrev pub contacts_if : Checked → Parts → Outlines → Pairs → Result Contacts Problem
+contacts_if (Ok tt) ps o pairs = Ok (all_contacts ps o pairs)
+contacts_if (Err p) ps o pairs = Err p
+
+unfoldable pub contacts_of : Mechanism → Result Contacts Problem
 contacts_of m = contacts_if (check_of m) m.parts m.outlines m.pairs
 
 -- document 01's row bound of a pair of a mechanism, and of the mechanism: the sum of its pairs'

@@ -1,5 +1,5 @@
 -- The features of a side (contact/features.rs). Definitions only; the names are the Rust's, with `Of` or `At` behind them.
-use Rattle.std.specs.Prelude.{ℕ, ◌+◌, ◌-◌, ◌%◌, ◌≡◌, Bool, true, false, ◌||◌, cond, List, [], ◌∷◌, ◌++◌, map, reverse, eqb, ltb, length, take, get_or, Float}
+use Rattle.std.specs.Prelude.{ℕ, ◌+◌, ◌-◌, ◌%◌, ◌≡◌, Bool, true, false, ◌||◌, cond, List, [], ◌∷◌, ◌++◌, map, reverse, eqb, ltb, length, take, get_or, Float, Option, Some, None, unwrap_or}
 use Rattle.std.proofs.lemmas.List.Edits.{sets}
 use Rattle.laws.specs.Loops.{join_in}
 use Rattle.laws.specs.Fill.{range, filled}
@@ -22,16 +22,6 @@ use Rattle.mechanism.specs.declared.part.Role.TheVariants.{Solid, Cut, Lining}
 use Rattle.mechanism.specs.declared.part.SurfaceRef.{SurfaceRef}
 use Rattle.bodies.specs.declared.pose.MaterialPoint.{MaterialPoint}
 use Rattle.silhouette.specs.Silhouette.{no_line, axis_of, silhouette_at}
-use Rattle.silhouette.specs.declared.MaybeAxis.{MaybeAxis}
-use Rattle.silhouette.specs.declared.MaybeAxis.TheVariants.{SomeAxis, NoAxis}
-use Rattle.corners.specs.declared.MaybeSeg.{MaybeSeg}
-use Rattle.corners.specs.declared.MaybeSeg.TheVariants.{NoSeg, SomeSeg}
-use Rattle.corners.specs.declared.MaybeFace.{MaybeFace}
-use Rattle.corners.specs.declared.MaybeFace.TheVariants.{NoFace, SomeFace}
-use Rattle.corners.specs.declared.MaybeDisc.{MaybeDisc}
-use Rattle.corners.specs.declared.MaybeDisc.TheVariants.{NoDisc, SomeDisc}
-use Rattle.sides.specs.declared.MaybePoint.{MaybePoint}
-use Rattle.sides.specs.declared.MaybePoint.TheVariants.{NoPoint, SomePoint}
 use Rattle.sides.specs.declared.PlacedFace.{PlacedFace}
 use Rattle.sides.specs.declared.PlacedDisc.{PlacedDisc}
 use Rattle.sides.specs.declared.Step.{Step}
@@ -40,6 +30,8 @@ use Rattle.sides.specs.declared.Traversal.{Traversal}
 use Rattle.sides.specs.declared.Traversals.{Traversals}
 use Rattle.sides.specs.declared.Features.{Features}
 use Rattle.sides.specs.declared.SideFeatures.{SideFeatures}
+use Rattle.geometry.specs.declared.signed.Disc.{Disc}
+use Rattle.geometry.specs.declared.signed.Face.{Face}
 
 -- ---- one range, as the material that it bounds runs
 -- What `side` reads of a range: the Rust's Traversal (a step is an entry of `segs` with that of `starts`), and beside it the part, whether it is a
@@ -49,8 +41,8 @@ pub record Run : Type 0 where
   pub cut : Bool
   pub count : ℕ
   pub steps : List Step
-  pub before : MaybeSeg
-  pub after : MaybeSeg
+  pub before : Option Seg
+  pub after : Option Seg
   pub wrapped : Bool
   pub ends : ℕ
 
@@ -58,7 +50,7 @@ abbrev pub seg_in : List Seg → ℕ → Seg
 seg_in sil i = get_or sil i no_line
 
 abbrev pub forward_step : List Seg → ℕ → Step
-forward_step sil i = record { named = i % length sil; starts = i % length sil; seg = SomeSeg (seg_in sil i) }
+forward_step sil i = record { named = i % length sil; starts = i % length sil; seg = Some (seg_in sil i) }
 
 -- run backwards, a segment starts where it ends as drawn, which is where the next one drawn starts
 abbrev pub backward_step : List Seg → ℕ → Step
@@ -72,8 +64,8 @@ forward_of r sil =
       cut = false;
       count = r.end - r.start;
       steps = map (forward_step sil) (range r.start r.end);
-      before = SomeSeg (seg_in sil ((r.start + n - 1) % n));
-      after = SomeSeg (seg_in sil (r.end % n));
+      before = Some (seg_in sil ((r.start + n - 1) % n));
+      after = Some (seg_in sil (r.end % n));
       wrapped = eqb (r.end - r.start) n;
       ends = r.end % n;
     }
@@ -98,86 +90,86 @@ traverse_of r sil Solid = forward_of r sil
 traverse_of r sil Lining = forward_of r sil
 
 -- ---- one segment's features
-abbrev pub placed_face : Piece → MaybeFace → List PlacedFace
-placed_face p NoFace = []
-placed_face p (SomeFace f) = record { piece = p; face = f } ∷ []
+abbrev pub placed_face : Piece → Option Face → List PlacedFace
+placed_face p None = []
+placed_face p (Some f) = record { piece = p; face = f } ∷ []
 
-abbrev pub placed_disc : Piece → MaybeDisc → List PlacedDisc
-placed_disc p NoDisc = []
-placed_disc p (SomeDisc d) = record { piece = p; disc = d } ∷ []
+abbrev pub placed_disc : Piece → Option Disc → List PlacedDisc
+placed_disc p None = []
+placed_disc p (Some d) = record { piece = p; disc = d } ∷ []
 
-abbrev pub faces_of_seg : ℕ → ℕ → MaybeSeg → List PlacedFace
-faces_of_seg part named NoSeg = []
-faces_of_seg part named (SomeSeg g) = placed_face (Piece.Segment part named) (face_of g)
+abbrev pub faces_of_seg : ℕ → ℕ → Option Seg → List PlacedFace
+faces_of_seg part named None = []
+faces_of_seg part named (Some g) = placed_face (Piece.Segment part named) (face_of g)
 
-abbrev pub discs_of_seg : ℕ → Bool → ℕ → ℕ → MaybeSeg → MaybeSeg → List PlacedDisc
-discs_of_seg part cut named starts previous NoSeg = []
-discs_of_seg part cut named starts previous (SomeSeg g) =
+abbrev pub discs_of_seg : ℕ → Bool → ℕ → ℕ → Option Seg → Option Seg → List PlacedDisc
+discs_of_seg part cut named starts previous None = []
+discs_of_seg part cut named starts previous (Some g) =
     placed_disc (Piece.Arc part named) (arc_of cut g) ++ placed_disc (Piece.Vertex part starts) (corner_of previous g)
 
 abbrev pub faces_at : ℕ → Step → List PlacedFace
 faces_at part s = faces_of_seg part s.named s.seg
 
-abbrev pub discs_at : ℕ → Bool → MaybeSeg → Step → List PlacedDisc
+abbrev pub discs_at : ℕ → Bool → Option Seg → Step → List PlacedDisc
 discs_at part cut previous s = discs_of_seg part cut s.named s.starts previous s.seg
 
 -- ---- one range's features
 abbrev pub no_step : Step
-no_step = record { named = 0; starts = 0; seg = NoSeg }
+no_step = record { named = 0; starts = 0; seg = None }
 
 abbrev pub step_at : Run → ℕ → Step
 step_at t i = get_or t.steps i no_step
 
-abbrev pub first_seg : Run → MaybeSeg
+abbrev pub first_seg : Run → Option Seg
 first_seg t = (step_at t 0).seg
 
-abbrev pub last_seg : Run → MaybeSeg
+abbrev pub last_seg : Run → Option Seg
 last_seg t = (step_at t (t.count - 1)).seg
 
 -- one range ends where the other starts, bit for bit
-abbrev pub meets : MaybeSeg → MaybeSeg → Bool
-meets NoSeg q = false
-meets (SomeSeg p) NoSeg = false
-meets (SomeSeg p) (SomeSeg q) = same_point (end_of p) (start_of q)
+abbrev pub meets : Option Seg → Option Seg → Bool
+meets None q = false
+meets (Some p) None = false
+meets (Some p) (Some q) = same_point (end_of p) (start_of q)
 
 -- before the range's first segment: the last of the range before, where the two are one chain, or its own outline's
-abbrev pub opening : Run → MaybeSeg → MaybeSeg
+abbrev pub opening : Run → Option Seg → Option Seg
 opening t last = cond (meets last (first_seg t)) last t.before
 
 -- the segment before step i
-abbrev pub previous_at : Run → MaybeSeg → ℕ → MaybeSeg
+abbrev pub previous_at : Run → Option Seg → ℕ → Option Seg
 previous_at t first i = cond (ltb 0 i) (step_at t (i - 1)).seg first
 
-abbrev pub between : MaybeSeg → MaybeSeg → MaybeDisc
-between last NoSeg = NoDisc
-between last (SomeSeg after) = corner_of last after
+abbrev pub between : Option Seg → Option Seg → Option Disc
+between last None = None
+between last (Some after) = corner_of last after
 
 unfoldable pub range_faces : Run → List PlacedFace
 range_faces t = join_in (λ i. faces_at t.part (step_at t i)) t.count 0
 
-unfoldable pub step_discs : Run → MaybeSeg → ℕ → List PlacedDisc
+unfoldable pub step_discs : Run → Option Seg → ℕ → List PlacedDisc
 step_discs t first i = discs_at t.part t.cut (previous_at t first i) (step_at t i)
 
 -- the vertex that the range ends at, unless the next range starts there, or the range runs round the whole silhouette
-unfoldable pub end_discs : Run → MaybeSeg → List PlacedDisc
+unfoldable pub end_discs : Run → Option Seg → List PlacedDisc
 end_discs t next = cond (meets (last_seg t) next || t.wrapped) [] (placed_disc (Piece.Vertex t.part t.ends) (between (last_seg t) t.after))
 
 -- `last` is the last segment of the range before, `next` the first of the range behind, where there is one
-unfoldable pub range_discs : Run → MaybeSeg → MaybeSeg → List PlacedDisc
+unfoldable pub range_discs : Run → Option Seg → Option Seg → List PlacedDisc
 range_discs t last next = join_in (step_discs t (opening t last)) t.count 0 ++ end_discs t next
 
 -- ---- a side's features
 abbrev pub no_run : Run
-no_run = record { part = 0; cut = false; count = 0; steps = []; before = NoSeg; after = NoSeg; wrapped = false; ends = 0 }
+no_run = record { part = 0; cut = false; count = 0; steps = []; before = None; after = None; wrapped = false; ends = 0 }
 
 abbrev pub run_at : List Run → ℕ → Run
 run_at ts k = get_or ts k no_run
 
-abbrev pub last_before : List Run → ℕ → MaybeSeg
-last_before ts k = cond (ltb 0 k) (last_seg (run_at ts (k - 1))) NoSeg
+abbrev pub last_before : List Run → ℕ → Option Seg
+last_before ts k = cond (ltb 0 k) (last_seg (run_at ts (k - 1))) None
 
-abbrev pub first_after : List Run → ℕ → MaybeSeg
-first_after ts k = cond (ltb (k + 1) (length ts)) (first_seg (run_at ts (k + 1))) NoSeg
+abbrev pub first_after : List Run → ℕ → Option Seg
+first_after ts k = cond (ltb (k + 1) (length ts)) (first_seg (run_at ts (k + 1))) None
 
 abbrev pub faces_of_range : List Run → ℕ → List PlacedFace
 faces_of_range ts k = range_faces (run_at ts k)
@@ -193,27 +185,23 @@ discs_of ts = join_in (discs_of_range ts) (length ts) 0
 
 -- ---- the centre of a side's drawn face
 -- the first point on the axis, bit for bit
-unfoldable pub crossing_of : Float → List Point → MaybePoint
-crossing_of axis [] = NoPoint
-crossing_of axis (p ∷ ps) = cond (same_of p.x axis) (SomePoint p) (crossing_of axis ps)
+unfoldable pub crossing_of : Float → List Point → Option Point
+crossing_of axis [] = None
+crossing_of axis (p ∷ ps) = cond (same_of p.x axis) (Some p) (crossing_of axis ps)
 
 abbrev pub middle_of : Point → Point → Point
 middle_of p q = record { x = half_f ⊗ (p.x ⊕ q.x); y = half_f ⊗ (p.y ⊕ q.y) }
 
-abbrev pub point_or : MaybePoint → Point → Point
-point_or NoPoint p = p
-point_or (SomePoint q) p = q
-
 -- where a centre is wanted and the first part is turned: the first start on the axis behind the range's first segment
-abbrev pub on_axis : Bool → MaybeAxis → List Seg → SurfaceRef → MaybePoint
-on_axis false a sil r = NoPoint
-on_axis true NoAxis sil r = NoPoint
-on_axis true (SomeAxis axis) sil r = crossing_of axis (map (λ i. start_of (seg_in sil i)) (range (r.start + 1) r.end))
+abbrev pub on_axis : Bool → Option Float → List Seg → SurfaceRef → Option Point
+on_axis false a sil r = None
+on_axis true None sil r = None
+on_axis true (Some axis) sil r = crossing_of axis (map (λ i. start_of (seg_in sil i)) (range (r.start + 1) r.end))
 
 -- otherwise the middle of the chord from the first range's start to the last one's end
-unfoldable pub center_of : Bool → MaybeAxis → List Seg → SurfaceRef → List Seg → SurfaceRef → Point
+unfoldable pub center_of : Bool → Option Float → List Seg → SurfaceRef → List Seg → SurfaceRef → Point
 center_of wanted axis sil first lastSil last =
-    point_or (on_axis wanted axis sil first) (middle_of (start_of (seg_in sil first.start)) (end_of (seg_in lastSil (last.end - 1))))
+    unwrap_or (on_axis wanted axis sil first) (middle_of (start_of (seg_in sil first.start)) (end_of (seg_in lastSil (last.end - 1))))
 
 -- ---- from the description
 abbrev pub traversal_of : Parts → Outlines → SurfaceRef → Run

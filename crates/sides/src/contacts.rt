@@ -1,14 +1,13 @@
 // The features of every pair (`PairFeatures::of` of contact/features.rs, `with_contacts` of mechanism/mod.rs).
-ghost use Rattle.std.specs.Prelude.{◌≡◌, [], ◌≤◌, replicate};
+ghost use Rattle.std.specs.Prelude.{◌≡◌, [], ◌≤◌};
 ghost use Rattle.mechanism.specs.Check.{FewParts};
-ghost use Rattle.bodies.specs.declared.Checked.TheVariants.{Accepted, Refused};
 ghost use Rattle.mechanism.specs.declared.features.Piece.TheVariants as Piece;
 ghost use Rattle.sides.specs.Features.{side_from, no_point};
 ghost use Rattle.sides.specs.Bounds.{DrawnSide};
-ghost use Rattle.sides.specs.Contacts.{center_of_b, pair_features, pair_features_at, no_pair_features, contacts_if, contacts_of, DrawnPairs};
+ghost use Rattle.sides.specs.Contacts.{center_of_b, pair_features, pair_features_at, no_pair_features, all_contacts, contacts_of, DrawnPairs};
 
 use super::{PlacedDisc, PlacedFace, PlacedPoint, SideFeatures, no_features, side};
-use bodies::{Checked, Problem};
+use bodies::Problem;
 use geometry::Point;
 use mechanism::check::{check, pair_drawn};
 use mechanism::features::Piece;
@@ -22,10 +21,9 @@ pub struct PairFeatures {
     pub b: SideFeatures,
 }
 
-// Whether a description is accepted, and where it is the features of its first `count` pairs, in order.
+// The features of the first `count` pairs of a description, in order.
 #[derive(Clone, Copy)]
 pub struct Contacts {
-    pub checked: Checked,
     pub count: usize,
     pub pair: [PairFeatures; 16],
 }
@@ -39,16 +37,14 @@ fn center_of_b(g: PairGeometry) -> bool
     }
 }
 
+#[tactic(auto, unfolding(crate::specs::Contacts::pair_features))]
 fn pair_features(ps: Parts, o: Outlines, p: ContactPair) -> PairFeatures
     requires { FewParts ps × DrawnSide ps p.a × DrawnSide ps p.b }
     ensures { result ≡ pair_features ps o p }
 {
-    let a = p.a;
-    let b = p.b;
-    let geometry = p.geometry;
     PairFeatures {
-        a: side(ps, o, a, false),
-        b: side(ps, o, b, center_of_b(geometry)),
+        a: side(ps, o, p.a, false),
+        b: side(ps, o, p.b, center_of_b(p.geometry)),
     }
 }
 
@@ -81,6 +77,7 @@ fn no_pair_features() -> PairFeatures
 }
 
 // The features of a pair, for any values; none where a side is not drawn.
+#[tactic(auto, unfolding(crate::specs::Contacts::pair_features_at), using(crate::proofs::Accepted::are_drawn))]
 pub fn pair_features_at(ps: Parts, o: Outlines, p: ContactPair) -> PairFeatures
     ensures { result ≡ pair_features_at ps o p }
 {
@@ -90,48 +87,25 @@ pub fn pair_features_at(ps: Parts, o: Outlines, p: ContactPair) -> PairFeatures
     no_pair_features()
 }
 
-fn refused(p: Problem) -> Contacts
-    ensures { result ≡ record { checked = Refused p; count = 0; pair = replicate 16 no_pair_features } }
-{
-    let pair = [no_pair_features(); 16];
-    Contacts {
-        checked: Checked::Refused(p),
-        count: 0,
-        pair,
-    }
-}
-
-fn accepted(ps: Parts, o: Outlines, pairs: Pairs) -> Contacts
+fn all_contacts(ps: Parts, o: Outlines, pairs: Pairs) -> Contacts
     requires { FewParts ps × (pairs.count ≤ 16) × DrawnPairs ps pairs }
-    ensures { result ≡ contacts_if Accepted ps o pairs }
+    ensures { result ≡ all_contacts ps o pairs }
 {
     let mut all = [no_pair_features(); 16];
-    let n = pairs.count;
-    let mut i: usize = 0;
-    while i < n {
-        let p = pairs.pair[i];
-        all[i] = pair_features(ps, o, p);
-        i += 1;
+    for i in 0..pairs.count {
+        all[i] = pair_features(ps, o, pairs.pair[i]);
     }
     Contacts {
-        checked: Checked::Accepted,
-        count: n,
+        count: pairs.count,
         pair: all,
     }
 }
 
 // The features of every side of a description that is accepted, or the first refusal that applies.
-pub fn with_contacts(m: Mechanism) -> Contacts
+#[tactic(auto, unfolding(crate::specs::Contacts::contacts_of))]
+pub fn with_contacts(m: Mechanism) -> Result<Contacts, Problem>
     ensures { result ≡ contacts_of m }
 {
-    let checked = check(m);
-    match checked {
-        Checked::Accepted => {
-            let ps = m.parts;
-            let o = m.outlines;
-            let pairs = m.pairs;
-            accepted(ps, o, pairs)
-        }
-        Checked::Refused(p) => refused(p),
-    }
+    check(m)?;
+    Ok(all_contacts(m.parts, m.outlines, m.pairs))
 }

@@ -10,13 +10,13 @@ ghost use Rattle.mechanism.specs.declared.features.Piece.TheVariants as Piece;
 ghost use Rattle.mechanism.specs.Segments.{outlines_in};
 ghost use Rattle.silhouette.specs.Silhouette.{segs_in, axis_of, silhouette_from};
 ghost use Rattle.corners.specs.Corners.{face_of, arc_of, corner_of};
-ghost use Rattle.sides.specs.Features.{forward_step, backward_step, forward_of, backward_of, traverse_of, seg_in, placed_face, placed_disc, faces_at, discs_at, first_seg, last_seg, meets, previous_at, range_faces, range_discs, step_discs, end_discs, last_before, first_after, faces_of, discs_of, crossing_of, middle_of, point_or, on_axis, center_of, center_at, traversal_of, traversals_of, run_of, steps_in, runs_in, no_face, no_disc, Grown, side_of, center_of_side};
+ghost use Rattle.sides.specs.Features.{forward_step, backward_step, forward_of, backward_of, traverse_of, seg_in, placed_face, placed_disc, faces_at, discs_at, first_seg, last_seg, meets, previous_at, range_faces, range_discs, step_discs, end_discs, last_before, first_after, faces_of, discs_of, crossing_of, middle_of, on_axis, center_of, center_at, traversal_of, traversals_of, run_of, steps_in, runs_in, no_face, no_disc, Grown, side_of, center_of_side};
 ghost use Rattle.sides.specs.Bounds.{Runs, DrawnRange, DrawnSide};
 
 pub mod contacts;
 
 use bodies::pose::MaterialPoint;
-use corners::{MaybeDisc, MaybeFace, MaybeSeg, arc, corner, face, run_back, vertex};
+use corners::{arc, corner, face, run_back, vertex};
 use geometry::signed::{Disc, Face};
 use geometry::{Dir, Point, Seg};
 use ieee::num::same;
@@ -27,13 +27,7 @@ use mechanism::part::{OutlineSeg, Part, Role, SurfaceRef, Sweep};
 use mechanism::segments::{SegRow, put_segs};
 use mechanism::{Outlines, Parts};
 use silhouette::rows::silhouette_seg;
-use silhouette::{MaybeAxis, SilhouetteSegs, axis, silhouette_at, start_of_part};
-
-#[derive(Clone, Copy)]
-enum MaybePoint {
-    NoPoint,
-    SomePoint(Point),
-}
+use silhouette::{SilhouetteSegs, axis, silhouette_at, start_of_part};
 
 #[derive(Clone, Copy)]
 pub struct PlacedFace {
@@ -58,7 +52,7 @@ pub struct PlacedPoint {
 struct Step {
     named: usize,
     starts: usize,
-    seg: MaybeSeg,
+    seg: Option<Seg>,
 }
 
 #[derive(Clone, Copy)]
@@ -74,8 +68,8 @@ struct Traversal {
     cut: bool,
     count: usize,
     steps: [Step; 12],
-    before: MaybeSeg,
-    after: MaybeSeg,
+    before: Option<Seg>,
+    after: Option<Seg>,
     wrapped: bool,
     ends: usize,
 }
@@ -115,26 +109,19 @@ fn forward_steps(first: usize, past: usize, sil: SilhouetteSegs) -> Steps
     let blank = Step {
         named: 0,
         starts: 0,
-        seg: MaybeSeg::NoSeg,
+        seg: None,
     };
     let mut all = [blank; 12];
-    let n = sil.count;
-    let mut k: usize = 0;
-    let mut i = first;
-    while i < past {
-        let b = sil.seg[i];
-        let g = b.seg;
-        let at = (i % n);
-        all[k] = Step {
+    for i in first..past {
+        let at = i % sil.count;
+        all[i - first] = Step {
             named: at,
             starts: at,
-            seg: MaybeSeg::SomeSeg(g),
+            seg: Some(sil.seg[i].seg),
         };
-        k += 1;
-        i += 1;
     }
     Steps {
-        count: k,
+        count: past - first,
         step: all,
     }
 }
@@ -146,25 +133,19 @@ fn backward_steps(first: usize, past: usize, sil: SilhouetteSegs) -> Steps
     let blank = Step {
         named: 0,
         starts: 0,
-        seg: MaybeSeg::NoSeg,
+        seg: None,
     };
     let mut all = [blank; 12];
-    let n = sil.count;
-    let mut k: usize = 0;
-    let mut i = past;
-    while i > first {
-        i -= 1;
-        let b = sil.seg[i];
-        let g = b.seg;
+    for k in 0..past - first {
+        let i = past - 1 - k;
         all[k] = Step {
-            named: (i % n),
-            starts: ((i + 1) % n),
-            seg: run_back(g),
+            named: i % sil.count,
+            starts: (i + 1) % sil.count,
+            seg: run_back(sil.seg[i].seg),
         };
-        k += 1;
     }
     Steps {
-        count: k,
+        count: past - first,
         step: all,
     }
 }
@@ -189,8 +170,8 @@ fn forward(range: SurfaceRef, sil: SilhouetteSegs) -> Traversal
         cut: false,
         count: s.count,
         steps: all,
-        before: MaybeSeg::SomeSeg(b),
-        after: MaybeSeg::SomeSeg(a),
+        before: Some(b),
+        after: Some(a),
         wrapped: past - first == n,
         ends: j,
     }
@@ -229,48 +210,39 @@ fn traverse(range: SurfaceRef, sil: SilhouetteSegs, role: Role) -> Traversal
 {
     match role {
         Role::Cut => backward(range, sil),
-        Role::Solid => forward(range, sil),
-        Role::Lining => forward(range, sil),
+        Role::Solid | Role::Lining => forward(range, sil),
     }
 }
 
 // ---- one segment's features
 
-fn add_face(f: Features, piece: Piece, m: MaybeFace) -> Features
+fn add_face(f: Features, piece: Piece, m: Option<Face>) -> Features
     requires { f.faces < 12 }
     ensures { Grown f result (placed_face piece m) [] }
 {
     match m {
-        MaybeFace::SomeFace(x) => {
+        Some(x) => {
             let mut t = f;
-            let n = t.faces;
-            t.face[n] = PlacedFace {
-                piece: piece,
-                face: x,
-            };
-            t.faces = n + 1;
+            t.face[t.faces] = PlacedFace { piece, face: x };
+            t.faces += 1;
             t
         }
-        MaybeFace::NoFace => f,
+        None => f,
     }
 }
 
-fn add_disc(f: Features, piece: Piece, m: MaybeDisc) -> Features
+fn add_disc(f: Features, piece: Piece, m: Option<Disc>) -> Features
     requires { f.discs < 28 }
     ensures { Grown f result [] (placed_disc piece m) }
 {
     match m {
-        MaybeDisc::SomeDisc(x) => {
+        Some(x) => {
             let mut t = f;
-            let n = t.discs;
-            t.disc[n] = PlacedDisc {
-                piece: piece,
-                disc: x,
-            };
-            t.discs = n + 1;
+            t.disc[t.discs] = PlacedDisc { piece, disc: x };
+            t.discs += 1;
             t
         }
-        MaybeDisc::NoDisc => f,
+        None => f,
     }
 }
 
@@ -280,142 +252,98 @@ fn read_seg(
     cut: bool,
     named: usize,
     starts: usize,
-    previous: MaybeSeg,
+    previous: Option<Seg>,
     seg: Seg,
 ) -> Features
     requires { (f.faces < 12) × (f.discs + 2 ≤ 28) }
     ensures { Grown f result (placed_face (Piece.Segment part named) (face_of seg)) (placed_disc (Piece.Arc part named) (arc_of cut seg) ++ placed_disc (Piece.Vertex part starts) (corner_of previous seg)) }
 {
-    let g = add_face(
-        f,
-        Piece::Segment {
-            part: part,
-            seg: named,
-        },
-        face(seg),
-    );
-    let h = add_disc(
-        g,
-        Piece::Arc {
-            part: part,
-            seg: named,
-        },
-        arc(cut, seg),
-    );
+    let g = add_face(f, Piece::Segment { part, seg: named }, face(seg));
+    let h = add_disc(g, Piece::Arc { part, seg: named }, arc(cut, seg));
     add_disc(
         h,
-        Piece::Vertex {
-            part: part,
-            seg: starts,
-        },
+        Piece::Vertex { part, seg: starts },
         corner(previous, seg),
     )
 }
 
-fn read_step(f: Features, part: usize, cut: bool, previous: MaybeSeg, s: Step) -> Features
+fn read_step(f: Features, part: usize, cut: bool, previous: Option<Seg>, s: Step) -> Features
     requires { (f.faces < 12) × (f.discs + 2 ≤ 28) }
     ensures { Grown f result (faces_at part s) (discs_at part cut previous s) }
 {
-    let m = s.seg;
-    match m {
-        MaybeSeg::SomeSeg(g) => read_seg(f, part, cut, s.named, s.starts, previous, g),
-        MaybeSeg::NoSeg => f,
+    match s.seg {
+        Some(g) => read_seg(f, part, cut, s.named, s.starts, previous, g),
+        None => f,
     }
 }
 
 // ---- one range's features
 
-fn first_seg(t: Traversal) -> MaybeSeg
+fn first_seg(t: Traversal) -> Option<Seg>
     requires { 0 < t.count }
     ensures { result ≡ first_seg (run_of t) }
 {
-    let s = t.steps[0];
-    let g = s.seg;
-    g
+    t.steps[0].seg
 }
 
-fn last_seg(t: Traversal) -> MaybeSeg
+fn last_seg(t: Traversal) -> Option<Seg>
     requires { (0 < t.count) × (t.count ≤ 12) }
     ensures { result ≡ last_seg (run_of t) }
 {
-    let k = t.count - 1;
-    let s = t.steps[k];
-    let g = s.seg;
-    g
+    t.steps[t.count - 1].seg
 }
 
-fn meet(last: MaybeSeg, next: MaybeSeg) -> bool
+fn meet(last: Option<Seg>, next: Option<Seg>) -> bool
     ensures { result ≡ meets last next }
 {
-    match last {
-        MaybeSeg::SomeSeg(p) => match next {
-            MaybeSeg::SomeSeg(q) => same_point(p.end(), q.start()),
-            MaybeSeg::NoSeg => false,
-        },
-        MaybeSeg::NoSeg => false,
+    match (last, next) {
+        (Some(p), Some(q)) => same_point(p.end(), q.start()),
+        _ => false,
     }
 }
 
-fn choose_seg(t: bool, a: MaybeSeg, b: MaybeSeg) -> MaybeSeg
+fn choose_seg(t: bool, a: Option<Seg>, b: Option<Seg>) -> Option<Seg>
     ensures { result ≡ cond t a b }
 {
     if t { a } else { b }
 }
 
-fn previous_at(t: Traversal, first: MaybeSeg, i: usize) -> MaybeSeg
+fn previous_at(t: Traversal, first: Option<Seg>, i: usize) -> Option<Seg>
     requires { (i < t.count) × (t.count ≤ 12) }
     ensures { result ≡ previous_at (run_of t) first i }
 {
-    if i > 0 {
-        let k = i - 1;
-        let s = t.steps[k];
-        let g = s.seg;
-        return g;
-    }
-    first
+    if i > 0 { t.steps[i - 1].seg } else { first }
 }
 
-fn read_steps(f: Features, t: Traversal, first: MaybeSeg) -> Features
+fn read_steps(f: Features, t: Traversal, first: Option<Seg>) -> Features
     requires { (t.count ≤ 12) × (f.faces + t.count ≤ 12) × (f.faces + f.discs + t.count + t.count ≤ 28) }
     ensures { Grown f result (range_faces (run_of t)) (join_in (step_discs (run_of t) first) t.count 0) }
 {
     let mut g = f;
-    let n = t.count;
-    let mut i: usize = 0;
-    while i < n {
-        let s = t.steps[i];
-        let p = previous_at(t, first, i);
-        g = read_step(g, t.part, t.cut, p, s);
-        i += 1;
+    for i in 0..t.count {
+        g = read_step(g, t.part, t.cut, previous_at(t, first, i), t.steps[i]);
     }
     g
 }
 
-fn end_disc(t: Traversal, next: MaybeSeg) -> MaybeDisc
+#[tactic(auto, unfolding(crate::specs::Features::end_discs))]
+fn end_disc(t: Traversal, next: Option<Seg>) -> Option<Disc>
     requires { (0 < t.count) × (t.count ≤ 12) }
     ensures { placed_disc (Piece.Vertex t.part t.ends) result ≡ end_discs (run_of t) next }
 {
     let last = last_seg(t);
-    let continued = meet(last, next);
-    let wrapped = t.wrapped;
-    if continued | wrapped {
-        return MaybeDisc::NoDisc;
+    if meet(last, next) | t.wrapped {
+        return None;
     }
-    let a = t.after;
-    match a {
-        MaybeSeg::SomeSeg(after) => corner(last, after),
-        MaybeSeg::NoSeg => MaybeDisc::NoDisc,
-    }
+    corner(last, t.after?)
 }
 
-fn read_range(f: Features, t: Traversal, last: MaybeSeg, next: MaybeSeg) -> Features
+fn read_range(f: Features, t: Traversal, last: Option<Seg>, next: Option<Seg>) -> Features
     requires { (0 < t.count) × (t.count ≤ 12) × (f.faces + t.count ≤ 12) × (f.faces + f.discs + t.count + t.count + 1 ≤ 28) }
     ensures { Grown f result (range_faces (run_of t)) (range_discs (run_of t) last next) }
 {
-    let before = t.before;
     let joined = meet(last, first_seg(t));
-    let first = choose_seg(joined, last, before);
-    let g = read_steps(f, t, first);
+    let g = read_steps(f, t, choose_seg(joined, last, t.before));
     add_disc(
         g,
         Piece::Vertex {
@@ -428,28 +356,27 @@ fn read_range(f: Features, t: Traversal, last: MaybeSeg, next: MaybeSeg) -> Feat
 
 // ---- a side's features
 
-fn last_before(ts: Traversals, k: usize) -> MaybeSeg
+fn last_before(ts: Traversals, k: usize) -> Option<Seg>
     requires { (k < ts.count) × (ts.count ≤ 4) × Runs (runs_in ts) }
     ensures { result ≡ last_before (runs_in ts) k }
 {
     if k > 0 {
-        let i = k - 1;
-        let t = ts.traversal[i];
-        return last_seg(t);
+        last_seg(ts.traversal[k - 1])
+    } else {
+        None
     }
-    MaybeSeg::NoSeg
 }
 
-fn first_after(ts: Traversals, k: usize) -> MaybeSeg
+fn first_after(ts: Traversals, k: usize) -> Option<Seg>
     requires { (k < ts.count) × (ts.count ≤ 4) × Runs (runs_in ts) }
     ensures { result ≡ first_after (runs_in ts) k }
 {
     let i = k + 1;
     if i < ts.count {
-        let t = ts.traversal[i];
-        return first_seg(t);
+        first_seg(ts.traversal[i])
+    } else {
+        None
     }
-    MaybeSeg::NoSeg
 }
 
 fn no_features() -> Features
@@ -489,14 +416,8 @@ fn read_all(ts: Traversals) -> Features
     ensures { (result.faces ≡ length (faces_of (runs_in ts))) × (result.face ≡ filled 12 no_face (faces_of (runs_in ts))) × (result.discs ≡ length (discs_of (runs_in ts))) × (result.disc ≡ filled 28 no_disc (discs_of (runs_in ts))) }
 {
     let mut f = no_features();
-    let n = ts.count;
-    let mut k: usize = 0;
-    while k < n {
-        let t = ts.traversal[k];
-        let last = last_before(ts, k);
-        let next = first_after(ts, k);
-        f = read_range(f, t, last, next);
-        k += 1;
+    for k in 0..ts.count {
+        f = read_range(f, ts.traversal[k], last_before(ts, k), first_after(ts, k));
     }
     f
 }
@@ -511,40 +432,33 @@ fn crossing(
     from: usize,
     past: usize,
     axis: f64,
-) -> MaybePoint
+) -> Option<Point>
     ensures { result ≡ crossing_of axis (map (λ i. start_of (seg_in (silhouette_from (outlines_in segs.now) first p) i)) (range from past)) }
 {
-    let mut i = from;
-    while i < past {
-        let g = silhouette_seg(segs, first, p, i);
-        let q = g.start();
-        i += 1;
+    for i in from..past {
+        let q = silhouette_seg(segs, first, p, i).start();
         if same(q.x, axis) {
-            return MaybePoint::SomePoint(q);
+            return Some(q);
         }
     }
-    MaybePoint::NoPoint
+    None
 }
 
 fn on_axis(
     wanted: bool,
-    about: MaybeAxis,
+    about: Option<f64>,
     segs: &[SegRow],
     first: usize,
     p: Part,
     range: SurfaceRef,
-) -> MaybePoint
+) -> Option<Point>
     requires { range.start < range.end }
     ensures { result ≡ on_axis wanted about (silhouette_from (outlines_in segs.now) first p) range }
 {
-    if wanted {
-        match about {
-            MaybeAxis::SomeAxis(x) => crossing(segs, first, p, range.start + 1, range.end, x),
-            MaybeAxis::NoAxis => MaybePoint::NoPoint,
-        }
-    } else {
-        MaybePoint::NoPoint
+    if !wanted {
+        return None;
     }
+    crossing(segs, first, p, range.start + 1, range.end, about?)
 }
 
 fn middle(p: Point, q: Point) -> Point
@@ -556,16 +470,8 @@ fn middle(p: Point, q: Point) -> Point
     }
 }
 
-fn point_or(m: MaybePoint, p: Point) -> Point
-    ensures { result ≡ point_or m p }
-{
-    match m {
-        MaybePoint::SomePoint(q) => q,
-        MaybePoint::NoPoint => p,
-    }
-}
-
 // The centre of a side whose first range is of the part p, with its outline from row `first` on, and its last range of the part q, with its outline from row `last` on.
+#[tactic(auto, unfolding(crate::specs::Features::center_of))]
 fn center(
     wanted: bool,
     segs: &[SegRow],
@@ -579,11 +485,9 @@ fn center(
     requires { (front.start < front.end) × (back.start < back.end) }
     ensures { result ≡ center_of wanted (axis_of p.sweep) (silhouette_from (outlines_in segs.now) first p) front (silhouette_from (outlines_in segs.now) last q) back }
 {
-    let sweep = p.sweep;
-    let m = on_axis(wanted, axis(sweep), segs, first, p, front);
     let a = silhouette_seg(segs, first, p, front.start);
     let b = silhouette_seg(segs, last, q, back.end - 1);
-    point_or(m, middle(a.start(), b.end()))
+    on_axis(wanted, axis(p.sweep), segs, first, p, front).unwrap_or(middle(a.start(), b.end()))
 }
 
 // ---- from the description
@@ -592,18 +496,15 @@ fn traversal_of(ps: Parts, o: Outlines, range: SurfaceRef) -> Traversal
     requires { FewParts ps × DrawnRange ps range }
     ensures { run_of result ≡ traversal_of ps o range }
 {
-    let i = range.part;
-    let part = ps.part[i];
-    let role = part.role;
-    let sil = silhouette_at(ps, o, i);
-    traverse(range, sil, role)
+    let sil = silhouette_at(ps, o, range.part);
+    traverse(range, sil, ps.part[range.part].role)
 }
 
 fn no_traversal() -> Traversal {
     let step = Step {
         named: 0,
         starts: 0,
-        seg: MaybeSeg::NoSeg,
+        seg: None,
     };
     let steps = [step; 12];
     Traversal {
@@ -611,8 +512,8 @@ fn no_traversal() -> Traversal {
         cut: false,
         count: 0,
         steps,
-        before: MaybeSeg::NoSeg,
-        after: MaybeSeg::NoSeg,
+        before: None,
+        after: None,
         wrapped: false,
         ends: 0,
     }
@@ -623,15 +524,11 @@ fn traversals_of(ps: Parts, o: Outlines, u: Surface) -> Traversals
     ensures { (result.count ≡ u.count) × (runs_in result ≡ traversals_of ps o u) }
 {
     let mut all = [no_traversal(); 4];
-    let n = u.count;
-    let mut k: usize = 0;
-    while k < n {
-        let r = u.range[k];
-        all[k] = traversal_of(ps, o, r);
-        k += 1;
+    for k in 0..u.count {
+        all[k] = traversal_of(ps, o, u.range[k]);
     }
     Traversals {
-        count: n,
+        count: u.count,
         traversal: all,
     }
 }
@@ -645,16 +542,14 @@ fn center_in(ps: Parts, segs: &[SegRow], u: Surface, wanted: bool) -> Point
     let back = u.range[u.count - 1];
     let i = front.part;
     let j = back.part;
-    let p = ps.part[i];
-    let q = ps.part[j];
     center(
         wanted,
         segs,
         start_of_part(ps, i),
-        p,
+        ps.part[i],
         front,
         start_of_part(ps, j),
-        q,
+        ps.part[j],
         back,
     )
 }
@@ -674,13 +569,11 @@ fn side(ps: Parts, o: Outlines, u: Surface, wanted: bool) -> SideFeatures
     ensures { result ≡ side_of ps o u wanted }
 {
     let f = read_all(traversals_of(ps, o, u));
-    let first = u.range[0];
-    let i = first.part;
-    let part = ps.part[i];
+    let i = u.range[0].part;
     let face = f.face;
     let disc = f.disc;
     SideFeatures {
-        body: part.body,
+        body: ps.part[i].body,
         faces: f.faces,
         face,
         discs: f.discs,
@@ -697,11 +590,9 @@ pub fn center_of(ps: Parts, segs: &[SegRow], u: Surface, wanted: bool) -> Materi
     ensures { result ≡ center_of_side ps (outlines_in segs.now) u wanted }
 {
     if side_drawn(ps, u) {
-        let first = u.range[0];
-        let i = first.part;
-        let part = ps.part[i];
+        let i = u.range[0].part;
         return MaterialPoint {
-            body: part.body,
+            body: ps.part[i].body,
             at: center_in(ps, segs, u, wanted),
         };
     }

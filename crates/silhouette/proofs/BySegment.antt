@@ -1,5 +1,5 @@
 -- A silhouette segment by segment, and that it depends on the part's own segments alone. Assumes nothing.
-use Prim.Native.Nat.{ℕ, zero, suc, ◌+◌, ◌-◌, ◌<◌, ◌≤◌}
+use Prim.Native.Nat.{ℕ, zero, suc, min, ◌+◌, ◌-◌, ◌<◌, ◌≤◌}
 use native.Mathlib.Omega.{arith}
 use native.Mathlib.Numerals.{add-one}
 use mathlib.Core.Path.{◌≡◌, refl, sym, ap, ap₂, subst, ◌∙◌}
@@ -9,14 +9,14 @@ use lib.Dec.{eqb, ltb}
 use lib.Ieee.{Float, neg}
 use lib.ListN.{length, get_or, take, drop, set, length-map, length-set, length-drop, length-reverse, get_or-map, get_or-append, get_or-eq_default}
 use lib.Seq.{sets, drop-cons, get_or-take, get_or-drop, get_or-set_same, get_or-set_other, get_or-append-add, length-take-le, take_all, take-length}
-use borrow.Author.Tests.{eqb-true, eqb-false, eq-eqb, ne_eqb, ltb-true, ltb-false, le-leb, lt-leb}
+use borrow.Author.Tests.{eqb-true, eqb-false, eq-eqb, ne_eqb, ltb-true, ltb-false, le-leb}
 use Rattle.laws.proofs.Choice.{and_no, cond_yes, cond_no}
 use Rattle.laws.proofs.Fill.{reverse_take}
 use Rattle.laws.proofs.Lists.{get_d_any}
 use Rattle.laws.proofs.Sums.{sum-part}
 use Rattle.ieee.specs.Consts.{one_f}
 use Rattle.geometry.specs.declared.Seg.{Seg}
-use Rattle.mechanism.specs.Description.{no_seg, seg_at, part_at, segs_of, start_of_part, turned_length, silhouette_length}
+use Rattle.mechanism.specs.Description.{no_seg, seg_at, part_at, segs_of, start_of_part, silhouette_length}
 use Rattle.mechanism.specs.Check.{parts_over}
 use Rattle.mechanism.specs.Segments.{outlines_in, seg_rows, segs_fit, segs_counted, SameSegs}
 use Rattle.mechanism.proofs.SegRows.{rows_long, put-rows-long, put-rows-same}
@@ -24,13 +24,10 @@ use Rattle.mechanism.specs.declared.Outlines.{Outlines}
 use Rattle.mechanism.specs.declared.Parts.{Parts}
 use Rattle.mechanism.specs.declared.part.OutlineSeg.{OutlineSeg}
 use Rattle.mechanism.specs.declared.part.Part.{Part}
-use Rattle.mechanism.specs.declared.part.Sweep.{Sweep}
-use Rattle.mechanism.specs.declared.part.Sweep.TheVariants.{Extruded, Revolved, Milled, Oval}
-use Rattle.silhouette.specs.declared.MaybeAxis.{MaybeAxis}
-use Rattle.silhouette.specs.declared.MaybeAxis.TheVariants.{SomeAxis, NoAxis}
 use Rattle.silhouette.specs.Silhouette.{axis_of, seg_of, boxed, no_line, about_axis, reversed_of, start_in, end_in, changed, chain_of, turned_seg, mirrored, revolved_of, silhouette_of, outline_from, silhouette_from, silhouette_count, is_part, outline_of, silhouette_at}
 use Rattle.silhouette.proofs.Lengths.{chain_length, silhouette_length_lem, part_of}
 use Rattle.silhouette.proofs.Walks.{about-none, about-few, about-some}
+use Rattle.std.proofs.Common.{Option, Some, None}
 
 -- ---- the outline
 module _ (o : Outlines) (first n : ℕ) where
@@ -195,17 +192,20 @@ module _ (rows : List (List Float)) (first n : ℕ) where
       let e = outline-rest (outlines_in rows) first n (omega arith) in
       (omega arith, omega arith)
 
-  pub left-all : n < length rows - first → (n ≡ length (outline_from (outlines_in rows) first n)) × (n ≤ length rows - first)
-  left-all h =
-      let l = rows_long rows in
-      let e = outline-whole (outlines_in rows) first n (omega arith) in
-      (omega arith, omega arith)
-
-  pub left-rest : length rows - first ≤ n → (length rows - first ≡ length (outline_from (outlines_in rows) first n)) × (length rows - first ≤ length rows - first)
-  left-rest h =
-      let l = rows_long rows in
-      let e = outline-rest (outlines_in rows) first n (omega arith) in
-      (omega arith, omega arith)
+  pub left-min : {r : ℕ} → r ≡ min n (length rows - first) → (r ≡ length (outline_from (outlines_in rows) first n)) × (r ≤ length rows - first)
+  left-min {r} m = go (ltb n (length rows - first)) refl
+    where
+      go : (b : Bool) → ltb n (length rows - first) ≡ b → (r ≡ length (outline_from (outlines_in rows) first n)) × (r ≤ length rows - first)
+      go true t =
+          let h = ltb-true n (length rows - first) t in
+          let l = rows_long rows in
+          let e = outline-whole (outlines_in rows) first n (omega arith) in
+          (omega arith, omega arith)
+      go false t =
+          let h = ltb-false n (length rows - first) t in
+          let l = rows_long rows in
+          let e = outline-rest (outlines_in rows) first n (omega arith) in
+          (omega arith, omega arith)
 
 -- n segments from row `first` on, all of them there
 module _ (rows : List (List Float)) (first n k : ℕ) (h : n ≤ length rows - first) where
@@ -217,9 +217,6 @@ module _ (rows : List (List Float)) (first n k : ℕ) (h : n ≤ length rows - f
 
   pub plain_here : k < n → seg_at (outlines_in rows) (first + k) ≡ get_or outline k no_line
   plain_here b = let l = here-long in sym (outline-at (outlines_in rows) first n k (omega (arith, b, l)) b)
-
-  pub plain-past : n ≤ k → no_line ≡ get_or outline k no_line
-  plain-past b = let l = here-long in sym (get_or-eq_default outline no_line (omega (arith, b, l)))
 
   pub chain_here : {s t r : Seg} → k + 1 < n → s ≡ seg_at (outlines_in rows) (first + k) → t ≡ cond (eqb k 0) (start_in s) s → r ≡ cond (eqb (k + 2) n) (end_in t) t → r ≡ get_or (chain_of outline) k no_line
   chain_here b e f g =
@@ -253,39 +250,14 @@ outline-counted o first m {n} e = go (ltb m (length o.seg - first)) refl
         let k = outline-rest o first m h in
         ap (map seg_of) (take_all n (drop first o.seg) (omega (arith, d, e, k)) ∙ sym (take_all m (drop first o.seg) (omega (arith, d, h))))
 
-module _ (o : Outlines) (first : ℕ) (p : Part) (k : ℕ) {n : ℕ} {a : MaybeAxis} (counted : n ≡ length (outline_from o first p.segs)) (about : a ≡ axis_of p.sweep) where
-  pub seg-plain : a ≡ NoAxis → get_or (outline_from o first n) k no_line ≡ get_or (silhouette_from o first p) k no_line
+module _ (o : Outlines) (first : ℕ) (p : Part) (k : ℕ) {n : ℕ} {a : Option Float} (counted : n ≡ length (outline_from o first p.segs)) (about : a ≡ axis_of p.sweep) where
+  pub seg-plain : a ≡ None → get_or (outline_from o first n) k no_line ≡ get_or (silhouette_from o first p) k no_line
   seg-plain e = ap (λ (l : List Seg). get_or l k no_line) (outline-counted o first p.segs counted ∙ sym (about-none p.sweep (outline_from o first p.segs) about e))
 
-  pub seg-few : {x : Float} → a ≡ SomeAxis x → n < 2 → no_line ≡ get_or (silhouette_from o first p) k no_line
+  pub seg-few : {x : Float} → a ≡ Some x → n < 2 → no_line ≡ get_or (silhouette_from o first p) k no_line
   seg-few e h = ap (λ (l : List Seg). get_or l k no_line) (sym (about-few p.sweep (outline_from o first p.segs) about e (omega (arith, counted, h))))
 
-  pub seg-turned : {x : Float} → a ≡ SomeAxis x → 2 ≤ n → get_or (revolved_of x (chain_of (outline_from o first n))) k no_line ≡ get_or (silhouette_from o first p) k no_line
+  pub seg-turned : {x : Float} → a ≡ Some x → 2 ≤ n → get_or (revolved_of x (chain_of (outline_from o first n))) k no_line ≡ get_or (silhouette_from o first p) k no_line
   seg-turned {x} e h =
       ap (λ (l : List Seg). get_or (revolved_of x (chain_of l)) k no_line) (outline-counted o first p.segs counted)
       ∙ ap (λ (l : List Seg). get_or l k no_line) (sym (about-some p.sweep (outline_from o first p.segs) about e (omega (arith, counted, h))))
-
--- how many segments a part's silhouette has, by its axis
-abbrev length_about : MaybeAxis → ℕ → ℕ
-length_about NoAxis n = n
-length_about (SomeAxis x) n = turned_length n
-
-length-about : (sweep : Sweep) (n : ℕ) → silhouette_length sweep n ≡ length_about (axis_of sweep) n
-length-about (Extruded w a) n = refl
-length-about (Revolved x) n = refl
-length-about (Milled w) n = refl
-length-about (Oval w) n = refl
-
-module _ (p : Part) where
-  pub count-over : 48 < p.segs → (0 ≡ silhouette_count p) × (0 ≤ 94)
-  count-over h = (sym (cond_no _ _ (lt-leb p.segs 48 h)), omega arith)
-
-  module _ {a : MaybeAxis} (about : a ≡ axis_of p.sweep) (h : p.segs ≤ 48) where
-    counted-about : silhouette_count p ≡ length_about a p.segs
-    counted-about = cond_yes _ _ (le-leb p.segs 48 h) ∙ length-about p.sweep p.segs ∙ ap (λ (x : MaybeAxis). length_about x p.segs) (sym about)
-
-    pub count-plain : a ≡ NoAxis → (p.segs ≡ silhouette_count p) × (p.segs ≤ 94)
-    count-plain e = (sym (counted-about ∙ ap (λ (x : MaybeAxis). length_about x p.segs) e), omega arith)
-
-    pub count-turned : {x : Float} {r : ℕ} → a ≡ SomeAxis x → r ≡ turned_length p.segs → (r ≡ silhouette_count p) × (r ≤ 94)
-    count-turned e d = (d ∙ sym (counted-about ∙ ap (λ (x : MaybeAxis). length_about x p.segs) e), omega (arith, d, h))

@@ -15,15 +15,14 @@ use Rattle.laws.specs.Loops.{any_in, Writing}
 use Rattle.laws.proofs.Choice.{and_yes, and_no, cond_yes, cond_no}
 use Rattle.laws.proofs.Fill.{map-drop, reverse_take, map-set, map-take, map_back, take-filled}
 use Rattle.laws.proofs.Lists.{get_d_any}
-use Rattle.laws.proofs.Writing.{starts, ends, ends-count, sets-append}
+use Rattle.laws.proofs.Writing.{starts, ends, sets-append}
 use Rattle.geometry.specs.declared.Seg.{Seg}
 use Rattle.mechanism.specs.Description.{no_seg}
 use Rattle.mechanism.specs.declared.part.OutlineSeg.{OutlineSeg}
 use Rattle.mechanism.specs.declared.part.Sweep.{Sweep}
-use Rattle.silhouette.specs.declared.MaybeAxis.{MaybeAxis}
-use Rattle.silhouette.specs.declared.MaybeAxis.TheVariants.{SomeAxis, NoAxis}
 use Rattle.silhouette.specs.declared.SilhouetteSegs.{SilhouetteSegs}
 use Rattle.silhouette.specs.Silhouette.{axis_of, seg_of, boxed, no_line, start_in, end_in, changed, chain_of, turned_seg, mirrored, revolved_of, silhouette_about, silhouette_of, joins_next, closed_of, outline_in, segs_in, as_outline, as_silhouette}
+use Rattle.std.proofs.Common.{Option, Some, None}
 
 -- ---- the segments that the first n places of an array hold
 abbrev pub held : ℕ → List OutlineSeg → List Seg
@@ -99,9 +98,9 @@ silhouette_made k l = record { count = k; seg = l }
 pub blank : {x : OutlineSeg} → x ≡ boxed no_line → record { count = 0; seg = replicate 94 x } ≡ as_silhouette []
 blank e = ap (λ (x : OutlineSeg). silhouette_made 0 (replicate 94 x)) e
 
--- the array and the number of segments that a walk leaves
-pub silhouette_done : (l : List Seg) {out rest : List OutlineSeg} {n : ℕ} → rest ≡ [] → Writing (replicate 94 (boxed no_line)) 0 (map boxed l) out n rest → record { count = n; seg = out } ≡ as_silhouette l
-silhouette_done l e w = ap₂ silhouette_made (ends-count e w ∙ zero-add (length (map boxed l)) ∙ length-map l boxed) (ends e w)
+-- the array that a walk leaves, and how many segments it walked
+pub silhouette_done : (l : List Seg) {out rest : List OutlineSeg} {m n : ℕ} → length l ≡ m → rest ≡ [] → Writing (replicate 94 (boxed no_line)) 0 (map boxed l) out n rest → record { count = m; seg = out } ≡ as_silhouette l
+silhouette_done l k e w = ap₂ silhouette_made (sym k) (ends e w)
 
 -- an outline that is written
 pub outline-done : {all out rest : List OutlineSeg} {n i : ℕ} → length all ≡ n → n ≤ 48 → rest ≡ [] → Writing (replicate 48 (boxed no_line)) 0 all out i rest → held n out ≡ map seg_of all
@@ -132,19 +131,19 @@ revolved_law axis l n t r k e c s = ap₂ silhouette_made count seg
         ∙ ap (filled 94 (boxed no_line)) (sym (map-append boxed there back))
 
 -- ---- Part::silhouette, by the axis that the sweep has
-module _ (sweep : Sweep) (l : List Seg) {a : MaybeAxis} (e : a ≡ axis_of sweep) where
+module _ (sweep : Sweep) (l : List Seg) {a : Option Float} (e : a ≡ axis_of sweep) where
   about : silhouette_of sweep l ≡ silhouette_about a l
   unfolding silhouette_of
-  about = ap (λ (b : MaybeAxis). silhouette_about b l) (sym e)
+  about = ap (λ (b : Option Float). silhouette_about b l) (sym e)
 
-  pub about-none : a ≡ NoAxis → silhouette_of sweep l ≡ l
-  about-none f = about ∙ ap (λ (b : MaybeAxis). silhouette_about b l) f
+  pub about-none : a ≡ None → silhouette_of sweep l ≡ l
+  about-none f = about ∙ ap (λ (b : Option Float). silhouette_about b l) f
 
-  pub about-few : {x : Float} → a ≡ SomeAxis x → length l < 2 → silhouette_of sweep l ≡ []
-  about-few {x} f h = about ∙ ap (λ (b : MaybeAxis). silhouette_about b l) f ∙ cond_yes _ _ (lt-ltb (length l) 2 h)
+  pub about-few : {x : Float} → a ≡ Some x → length l < 2 → silhouette_of sweep l ≡ []
+  about-few {x} f h = about ∙ ap (λ (b : Option Float). silhouette_about b l) f ∙ cond_yes _ _ (lt-ltb (length l) 2 h)
 
-  pub about-some : {x : Float} → a ≡ SomeAxis x → 2 ≤ length l → silhouette_of sweep l ≡ revolved_of x (chain_of l)
-  about-some {x} f h = about ∙ ap (λ (b : MaybeAxis). silhouette_about b l) f ∙ cond_no _ _ (le-ltb (length l) 2 h)
+  pub about-some : {x : Float} → a ≡ Some x → 2 ≤ length l → silhouette_of sweep l ≡ revolved_of x (chain_of l)
+  about-some {x} f h = about ∙ ap (λ (b : Option Float). silhouette_about b l) f ∙ cond_no _ _ (le-ltb (length l) 2 h)
 
 -- ---- Part::is_closed
 pub closed-few : (l : List Seg) → length l < 2 → closed_of l ≡ false

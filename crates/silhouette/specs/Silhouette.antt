@@ -1,12 +1,12 @@
 -- Parts and their silhouettes (contact/mod.rs), operation by operation. Definitions only.
-use Rattle.std.specs.Prelude.{ℕ, ◌+◌, ◌-◌, ◌*◌, ◌%◌, ◌≤◌, ◌≡◌, Bool, true, false, not, ◌&&◌, ◌||◌, cond, List, [], ◌++◌, map, reverse, leb, ltb, length, take, drop, get_or, set, Float}
+use Rattle.std.specs.Prelude.{ℕ, ◌+◌, ◌-◌, ◌*◌, ◌%◌, ◌≤◌, ◌≡◌, Bool, true, false, not, ◌&&◌, ◌||◌, cond, List, [], ◌++◌, map, reverse, leb, ltb, length, take, drop, get_or, set, Float, Option, Some, None, unwrap_or}
 use Rattle.std.specs.Float.Ieee.{lt, eq, neg}
 use Rattle.laws.specs.Fill.{filled}
 use Rattle.laws.specs.Loops.{any_in}
 use Rattle.ieee.specs.Operators.{◌⊕◌, ◌⊗◌}
 use Rattle.ieee.specs.Consts.{zero_f, one_f, two_f}
 use Rattle.ieee.specs.Num.{abs_of, plain_zero}
-use Rattle.geometry.specs.Geometry.{dir_of, dir_or, start_of, end_of}
+use Rattle.geometry.specs.Geometry.{dir_of, start_of, end_of}
 use Rattle.geometry.specs.declared.Point.{Point}
 use Rattle.geometry.specs.declared.Dir.{Dir}
 use Rattle.geometry.specs.declared.Seg.{Seg}
@@ -19,18 +19,16 @@ use Rattle.mechanism.specs.declared.part.OutlineSeg.{OutlineSeg}
 use Rattle.mechanism.specs.declared.part.Part.{Part}
 use Rattle.mechanism.specs.declared.part.Sweep.{Sweep}
 use Rattle.mechanism.specs.declared.part.Sweep.TheVariants.{Extruded, Revolved, Milled, Oval}
-use Rattle.silhouette.specs.declared.MaybeAxis.{MaybeAxis}
-use Rattle.silhouette.specs.declared.MaybeAxis.TheVariants.{SomeAxis, NoAxis}
 use Rattle.silhouette.specs.declared.Outline.{Outline}
 use Rattle.silhouette.specs.declared.SilhouetteSegs.{SilhouetteSegs}
 
 -- ---- Sweep
 -- the axis that a part is turned about, an abscissa of -0.0 read as +0.0 (document 02, item 6); the silhouette and the search for a centre read it here
-abbrev pub axis_of : Sweep → MaybeAxis
-axis_of (Extruded w a) = NoAxis
-axis_of (Revolved x) = SomeAxis (plain_zero x)
-axis_of (Milled w) = NoAxis
-axis_of (Oval w) = NoAxis
+abbrev pub axis_of : Sweep → Option Float
+axis_of (Extruded w a) = None
+axis_of (Revolved x) = Some (plain_zero x)
+axis_of (Milled w) = None
+axis_of (Oval w) = None
 
 -- the plane of the section cuts the part
 abbrev pub in_the_section : Sweep → Bool
@@ -47,7 +45,7 @@ abbrev pub sided : Float → Point → Point
 sided side p = record { x = side ⊗ p.x; y = p.y }
 
 unfoldable pub flip_of : Dir → Dir
-flip_of d = dir_or (dir_of (neg d.x) d.y) d
+flip_of d = unwrap_or (dir_of (neg d.x) d.y) d
 
 unfoldable pub about_axis : Seg → Float → Float → Seg
 about_axis (Line a b) axis side = Line (shifted_of (sided side a) axis) (shifted_of (sided side b) axis)
@@ -89,9 +87,9 @@ mirrored axis s = reversed_of (about_axis s axis (neg one_f))
 abbrev pub revolved_of : Float → List Seg → List Seg
 revolved_of axis chain = map (turned_seg axis) chain ++ map (mirrored axis) (reverse chain)
 
-abbrev pub silhouette_about : MaybeAxis → List Seg → List Seg
-silhouette_about NoAxis outline = outline
-silhouette_about (SomeAxis axis) outline = cond (ltb (length outline) 2) [] (revolved_of axis (chain_of outline))
+abbrev pub silhouette_about : Option Float → List Seg → List Seg
+silhouette_about None outline = outline
+silhouette_about (Some axis) outline = cond (ltb (length outline) 2) [] (revolved_of axis (chain_of outline))
 
 unfoldable pub silhouette_of : Sweep → List Seg → List Seg
 silhouette_of sweep outline = silhouette_about (axis_of sweep) outline

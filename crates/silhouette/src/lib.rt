@@ -29,24 +29,13 @@ pub struct SilhouetteSegs {
     pub seg: [OutlineSeg; 94],
 }
 
-#[derive(Clone, Copy)]
-pub enum MaybeAxis {
-    SomeAxis(f64),
-    NoAxis,
-}
-
 // The abscissa of the axis that a part is turned about, -0.0 read as +0.0.
-pub fn axis(sweep: Sweep) -> MaybeAxis
+pub fn axis(sweep: Sweep) -> Option<f64>
     ensures { result ≡ axis_of sweep }
 {
     match sweep {
-        Sweep::Extruded {
-            width: _,
-            across: _,
-        } => MaybeAxis::NoAxis,
-        Sweep::Revolved { axis } => MaybeAxis::SomeAxis(plain_zero(axis)),
-        Sweep::Milled { width: _ } => MaybeAxis::NoAxis,
-        Sweep::Oval { width: _ } => MaybeAxis::NoAxis,
+        Sweep::Revolved { axis } => Some(plain_zero(axis)),
+        Sweep::Extruded { .. } | Sweep::Milled { .. } | Sweep::Oval { .. } => None,
     }
 }
 
@@ -56,9 +45,7 @@ pub fn is_in_the_section(sweep: Sweep) -> bool
 {
     match sweep {
         Sweep::Extruded { width, across } => (across == 0.0) | (2.0 * abs(across) < width),
-        Sweep::Revolved { axis: _ } => true,
-        Sweep::Milled { width: _ } => true,
-        Sweep::Oval { width: _ } => true,
+        Sweep::Revolved { .. } | Sweep::Milled { .. } | Sweep::Oval { .. } => true,
     }
 }
 
@@ -83,12 +70,14 @@ fn on_side(side: f64, p: Point) -> Point
     }
 }
 
+#[tactic(auto, unfolding(crate::specs::Silhouette::flip_of))]
 fn flip(d: Dir) -> Dir
     ensures { result ≡ flip_of d }
 {
-    geometry::dir_or(Dir::new(-d.x, d.y), d)
+    geometry::Dir::new(-d.x, d.y).unwrap_or(d)
 }
 
+#[tactic(auto, unfolding(crate::specs::Silhouette::about_axis))]
 fn about_axis(seg: Seg, axis: f64, side: f64) -> Seg
     ensures { result ≡ about_axis seg axis side }
 {
@@ -124,7 +113,7 @@ fn reversed(seg: Seg) -> Seg
 {
     match seg {
         Seg::Line { a, b } => Seg::Line { a: b, b: a },
-        Seg::Arc { c, r, from, to } => Seg::Arc { c, r, from, to },
+        Seg::Arc { .. } => seg,
     }
 }
 
@@ -139,7 +128,7 @@ fn start_in(seg: Seg) -> Seg
             a: Point { x: 0.0, y: a.y },
             b,
         },
-        Seg::Arc { c, r, from, to } => Seg::Arc { c, r, from, to },
+        Seg::Arc { .. } => seg,
     }
 }
 
@@ -152,7 +141,7 @@ fn end_in(seg: Seg) -> Seg
             a,
             b: Point { x: 0.0, y: b.y },
         },
-        Seg::Arc { c, r, from, to } => Seg::Arc { c, r, from, to },
+        Seg::Arc { .. } => seg,
     }
 }
 
@@ -163,12 +152,12 @@ fn chain(o: Outline) -> Outline
 {
     let n = o.count - 1;
     let mut seg = o.seg;
-    let f = seg[0];
-    let g = f.seg;
-    seg[0] = OutlineSeg { seg: start_in(g) };
-    let l = seg[n - 1];
-    let h = l.seg;
-    seg[n - 1] = OutlineSeg { seg: end_in(h) };
+    seg[0] = OutlineSeg {
+        seg: start_in(seg[0].seg),
+    };
+    seg[n - 1] = OutlineSeg {
+        seg: end_in(seg[n - 1].seg),
+    };
     Outline { count: n, seg }
 }
 
@@ -191,17 +180,15 @@ fn turned(o: Outline, axis: f64) -> SilhouetteSegs
     ensures { result ≡ as_silhouette (map (turned_seg axis) (outline_in o)) }
 {
     let mut seg = [no_line(); 94];
-    let n = o.count;
-    let mut i: usize = 0;
-    while i < n {
-        let b = o.seg[i];
-        let g = b.seg;
+    for i in 0..o.count {
         seg[i] = OutlineSeg {
-            seg: about_axis(g, axis, 1.0),
+            seg: about_axis(o.seg[i].seg, axis, 1.0),
         };
-        i += 1;
     }
-    SilhouetteSegs { count: i, seg }
+    SilhouetteSegs {
+        count: o.count,
+        seg,
+    }
 }
 
 // Behind it the chain's mirror, run backwards.
@@ -210,18 +197,15 @@ fn mirror(o: Outline, axis: f64, s: SilhouetteSegs) -> SilhouetteSegs
     ensures { (result.count ≡ s.count + o.count) × (result.seg ≡ sets s.seg s.count (map boxed (map (mirrored axis) (reverse (outline_in o))))) }
 {
     let mut seg = s.seg;
-    let mut n = s.count;
-    let mut i = o.count;
-    while 0 < i {
-        i -= 1;
-        let b = o.seg[i];
-        let g = b.seg;
-        seg[n] = OutlineSeg {
-            seg: reversed(about_axis(g, axis, -1.0)),
+    for i in 0..o.count {
+        seg[s.count + i] = OutlineSeg {
+            seg: reversed(about_axis(o.seg[o.count - 1 - i].seg, axis, -1.0)),
         };
-        n += 1;
     }
-    SilhouetteSegs { count: n, seg }
+    SilhouetteSegs {
+        count: s.count + o.count,
+        seg,
+    }
 }
 
 // The outline as it is.
@@ -230,13 +214,13 @@ fn plain(o: Outline) -> SilhouetteSegs
     ensures { result ≡ as_silhouette (outline_in o) }
 {
     let mut seg = [no_line(); 94];
-    let n = o.count;
-    let mut i: usize = 0;
-    while i < n {
+    for i in 0..o.count {
         seg[i] = o.seg[i];
-        i += 1;
     }
-    SilhouetteSegs { count: i, seg }
+    SilhouetteSegs {
+        count: o.count,
+        seg,
+    }
 }
 
 fn revolved(o: Outline, axis: f64) -> SilhouetteSegs
@@ -271,10 +255,9 @@ fn silhouette_counted(o: Outline, sweep: Sweep) -> SilhouetteSegs
     requires { o.count ≤ 48 }
     ensures { result ≡ as_silhouette (silhouette_of sweep (outline_in o)) }
 {
-    let about = axis(sweep);
-    match about {
-        MaybeAxis::NoAxis => plain(o),
-        MaybeAxis::SomeAxis(x) => {
+    match axis(sweep) {
+        None => plain(o),
+        Some(x) => {
             if o.count < 2 {
                 no_silhouette()
             } else {
@@ -291,28 +274,19 @@ fn joins_next(o: Outline, i: usize) -> bool
     requires { (i < o.count) × (o.count ≤ 48) }
     ensures { result ≡ joins_next (outline_in o) i }
 {
-    let n = o.count;
-    let k = (i + 1) % n;
-    let b = o.seg[i];
-    let g = b.seg;
-    let d = o.seg[k];
-    let h = d.seg;
-    same_point(g.end(), h.start())
+    let k = (i + 1) % o.count;
+    same_point(o.seg[i].seg.end(), o.seg[k].seg.start())
 }
 
 fn closed_counted(o: Outline) -> bool
     requires { o.count ≤ 48 }
     ensures { result ≡ closed_of (outline_in o) }
 {
-    let n = o.count;
-    if n < 2 {
+    if o.count < 2 {
         return false;
     }
-    let mut i: usize = 0;
-    while i < n {
-        let k = i;
-        i += 1;
-        if !joins_next(o, k) {
+    for i in 0..o.count {
+        if !joins_next(o, i) {
             return false;
         }
     }
@@ -339,17 +313,15 @@ fn start_of(ps: Parts, i: usize) -> usize
     requires { FewParts ps × (i < ps.count) }
     ensures { result ≡ start_of_part ps i }
 {
-    let mut at: usize = 0;
-    let mut k: usize = 0;
-    while k < i {
-        let p = ps.part[k];
-        at += p.segs;
-        k += 1;
+    let mut at = 0;
+    for k in 0..i {
+        at += ps.part[k].segs;
     }
     at
 }
 
 // Where the outline of part i starts; 0 where there is no such part.
+#[tactic(auto, using(crate::proofs::Lengths::part_of))]
 pub fn start_of_part(ps: Parts, i: usize) -> usize
     ensures { result ≡ cond (is_part ps i) (start_of_part ps i) 0 }
 {
@@ -365,33 +337,29 @@ fn segs_from(o: Outlines, at: usize, n: usize) -> Outline
     ensures { (result.count ≡ n) × (outline_in result ≡ map (λ b. b.seg) (take n (drop at o.seg))) }
 {
     let mut seg = [no_line(); 48];
-    let mut i: usize = 0;
-    while i < n {
+    for i in 0..n {
         seg[i] = o.seg[at + i];
-        i += 1;
     }
     Outline { count: n, seg }
 }
 
+#[tactic(auto, unfolding(crate::specs::Silhouette::outline_of))]
 fn outline_of(ps: Parts, o: Outlines, i: usize) -> Outline
     requires { FewParts ps × (i < ps.count) }
     ensures { (result.count ≡ segs_of ps i) × (outline_in result ≡ outline_of ps o i) }
 {
-    let at = start_of(ps, i);
-    let p = ps.part[i];
-    segs_from(o, at, p.segs)
+    segs_from(o, start_of(ps, i), ps.part[i].segs)
 }
 
 fn silhouette_of(ps: Parts, o: Outlines, i: usize) -> SilhouetteSegs
     requires { FewParts ps × (i < ps.count) }
     ensures { result ≡ as_silhouette (silhouette_of (part_at ps i).sweep (outline_of ps o i)) }
 {
-    let p = ps.part[i];
-    let sweep = p.sweep;
-    silhouette_counted(outline_of(ps, o, i), sweep)
+    silhouette_counted(outline_of(ps, o, i), ps.part[i].sweep)
 }
 
 // The silhouette of part i, without segments where there is no such part.
+#[tactic(auto, unfolding(crate::specs::Silhouette::silhouette_at), using(crate::proofs::Lengths::part_of))]
 pub fn silhouette_at(ps: Parts, o: Outlines, i: usize) -> SilhouetteSegs
     ensures { result ≡ as_silhouette (silhouette_at ps o i) }
 {

@@ -3,7 +3,7 @@ ghost use Rattle.std.specs.Prelude.{◌≡◌, cond, ◌+◌, ◌-◌, ◌<◌, 
 ghost use Rattle.mechanism.specs.Segments.{outlines_in};
 ghost use Rattle.silhouette.specs.Silhouette.{start_in, end_in, no_line, chain_of, revolved_of, outline_from, silhouette_from, silhouette_count};
 
-use super::{MaybeAxis, about_axis, axis, end_in, no_line, reversed, start_in};
+use super::{about_axis, axis, end_in, no_line, reversed, start_in};
 use geometry::{Point, Seg};
 use mechanism::part::{OutlineSeg, Part, Sweep};
 use mechanism::segments::{SegRow, seg_at};
@@ -11,20 +11,17 @@ use mechanism::segments::{SegRow, seg_at};
 fn no_seg() -> Seg
     ensures { result ≡ no_line }
 {
-    let b = no_line();
-    b.seg
+    no_line().seg
 }
 
 // How many of the n segments from row `first` on there are.
 fn left_of(segs: &[SegRow], first: usize, n: usize) -> usize
     ensures { (result ≡ length (outline_from (outlines_in segs.now) first n)) × (result ≤ length segs.now - first) }
 {
-    let all = segs.len();
-    if all <= first {
+    if segs.len() <= first {
         return 0;
     }
-    let rest = all - first;
-    if n < rest { n } else { rest }
+    n.min(segs.len() - first)
 }
 
 fn start_in_if(t: bool, s: Seg) -> Seg
@@ -80,11 +77,9 @@ pub fn silhouette_seg(segs: &[SegRow], first: usize, p: Part, k: usize) -> Seg
     ensures { result ≡ get_or (silhouette_from (outlines_in segs.now) first p) k no_line }
 {
     let n = left_of(segs, first, p.segs);
-    let sweep = p.sweep;
-    let about = axis(sweep);
-    match about {
-        MaybeAxis::NoAxis => plain_seg(segs, first, n, k),
-        MaybeAxis::SomeAxis(x) => {
+    match axis(p.sweep) {
+        None => plain_seg(segs, first, n, k),
+        Some(x) => {
             if n < 2 {
                 no_seg()
             } else {
@@ -102,10 +97,8 @@ pub fn silhouette_count(p: Part) -> usize
     if 48 < n {
         return 0;
     }
-    let sweep = p.sweep;
-    let about = axis(sweep);
-    match about {
-        MaybeAxis::NoAxis => n,
-        MaybeAxis::SomeAxis(_) => { if n == 0 { 0 } else { (n - 1) + (n - 1) } }
+    match axis(p.sweep) {
+        None => n,
+        Some(_) => { if n == 0 { 0 } else { (n - 1) + (n - 1) } }
     }
 }

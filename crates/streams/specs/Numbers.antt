@@ -1,7 +1,6 @@
--- What a number is printed as.
-use Rattle.std.specs.Prelude.{ℕ, ◌-◌, List, ◌++◌, length, replicate, false}
-use Rattle.std.specs.Fmt.{digits}
+-- A number in decimal digits.
+use Rattle.std.specs.Prelude.{ℕ, ◌+◌, ◌*◌, ◌%◌}
 
--- the hexadecimal digits of n, in lower case, with zeros in front up to so many digits
-abbrev pub hex_text : ℕ → ℕ → List ℕ
-hex_text width n = replicate (width - length (digits 16 false n)) 48 ++ digits 16 false n
+-- a number of at most six digits with one more digit behind it, the low four bits of a byte
+abbrev pub tens : ℕ → ℕ → ℕ
+tens value b = value % 100000 * 10 + b % 16 % 10

@@ -1,14 +1,13 @@
-// Reading whole buffers and writing bytes and numbers, over any reader and writer.
+// Reading whole buffers and texts behind their length, over any reader.
 #![tactic(auto)]
 
-ghost use Rattle.std.specs.Prelude.{◌≡◌, ◌<◌, min, length, take, IfOk, OnOk};
+ghost use Rattle.std.specs.Prelude.{◌≡◌, ◌<◌, length, take, fold, IfOk};
 ghost use Rattle.std.specs.Io.{ReadsAtMost};
-ghost use Rattle.std.specs.Io.KnownBytes.{Appends, Consumes, IsAtEnd};
-ghost use Rattle.std.specs.Fmt.{decimal};
-ghost use Rattle.streams.specs.Numbers.{hex_text};
+ghost use Rattle.std.specs.Io.KnownBytes.{Consumes, IsAtEnd};
+ghost use Rattle.streams.specs.Numbers.{tens};
 
 use std::io;
-use std::io::{Read, Write};
+use std::io::Read;
 
 // Reads until `buf` is full or the input ends, and returns how many bytes it put at the start of `buf`.
 pub fn read_full<R: Read>(input: &mut R, buf: &mut [u8]) -> io::Result<usize>
@@ -28,23 +27,33 @@ pub fn read_full<R: Read>(input: &mut R, buf: &mut [u8]) -> io::Result<usize>
     Ok(done)
 }
 
-pub fn write_all<W: Write>(out: &mut W, bytes: &[u8]) -> io::Result<()>
-    ensures { OnOk result (Appends (W.contents out.old) (W.contents out.new) bytes.now) }
+// The number that six decimal digits say, the low four bits of each byte; the seventh byte, which ends the line, says nothing.
+pub fn six_digits(d: [u8; 7]) -> usize
+    ensures { result ≡ fold tens 0 (take 6 d) }
 {
-    out.write_all(bytes)
+    d[..6].iter().fold(0, |value, b| tens(value, *b))
 }
 
-// Prints `value` in decimal digits.
-pub fn print_decimal<W: Write>(out: &mut W, value: u64) -> io::Result<()>
-    ensures { OnOk result (Appends (W.contents out.old) (W.contents out.new) (decimal value)) }
+// A number of at most six digits with one more digit behind it.
+fn tens(value: usize, b: u8) -> usize
+    ensures { result ≡ tens value b }
 {
-    write!(out, "{value}")
+    value % 100000 * 10 + (b % 16 % 10) as usize
 }
 
-// Prints `value` in hexadecimal digits, in lower case, with zeros in front up to `width` digits; a width above 16 counts as 16.
-pub fn print_hex<W: Write>(out: &mut W, value: u64, width: usize) -> io::Result<()>
-    ensures { OnOk result (Appends (W.contents out.old) (W.contents out.new) (hex_text (min width 16) value)) }
+// Reads a text behind its length in six digits and a newline into the front of `buf`, and answers the length; none at the end of the input.
+// A text that is longer than `buf` is left in the input.
+pub fn next_text<R: Read>(input: &mut R, buf: &mut [u8]) -> io::Result<Option<usize>>
+    ensures same { length buf.new ≡ length buf.old }
+    ensures end { IfOk result (λ found. found ≡ None → IsAtEnd (R.remaining input.new)) }
 {
-    let padded = width.min(16);
-    write!(out, "{value:0padded$x}")
+    let mut head = [0u8; 7];
+    if read_full(input, &mut head)? < 7 {
+        return Ok(None);
+    }
+    let n = six_digits(head);
+    if n <= buf.len() {
+        read_full(input, &mut buf[..n])?;
+    }
+    Ok(Some(n))
 }

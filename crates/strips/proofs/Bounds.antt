@@ -21,3 +21,5 @@ part_small l = record { drawn_small = at-most_small (get_or l 1 0) 65535; points
 
 pub side-small : (l : List ℕ) → SmallSide (facts_from l)
 side-small l = record { face_small = at-most_small (get_or l 1 0) 65535; faces_few = at-most_small (get_or l 2 0) 12; disc_small = at-most_small (get_or l 3 0) 65535; discs_few = at-most_small (get_or l 4 0) 28 }
+
+pub ruleset small_sides = (side-small)

@@ -136,7 +136,7 @@ pub fn point_at(points: &[PointRow], i: usize) -> Point
 pub fn at_most(n: usize, m: usize) -> usize
     ensures { (result ≡ at_most n m) × (result ≤ m) }
 {
-    if n < m { n } else { m }
+    n.min(m)
 }
 
 pub fn part_from(r: PartRow) -> PartFacts
@@ -151,6 +151,7 @@ pub fn part_from(r: PartRow) -> PartFacts
     }
 }
 
+#[tactic(auto, using(crate::proofs::Bounds::part_small))]
 pub fn part_at(parts: &[PartRow], i: usize) -> PartFacts
     ensures { (result ≡ part_from (get_or parts.now i [])) × SmallPart result }
 {
@@ -180,6 +181,7 @@ pub fn side_from(r: SideRow) -> SideFacts
     }
 }
 
+#[tactic(auto, using(crate::proofs::Bounds::small_sides))]
 pub fn side_at(sides: &[SideRow], i: usize) -> SideFacts
     ensures { (result ≡ facts_from (get_or sides.now i [])) × SmallSide result }
 {
@@ -230,19 +232,15 @@ pub fn row_of_sampled(side: usize) -> usize
 pub fn face_row(f: Face) -> FaceRow
     ensures { result ≡ face_row f }
 {
-    let a = f.a;
-    let b = f.b;
-    let n = f.normal;
-    [a.x, a.y, b.x, b.y, n.x, n.y]
+    [f.a.x, f.a.y, f.b.x, f.b.y, f.normal.x, f.normal.y]
 }
 
 pub fn disc_row(d: Disc) -> DiscRow
     ensures { result ≡ disc_row d }
 {
-    let c = d.center;
-    let f = d.from;
-    let t = d.to;
-    [c.x, c.y, d.radius, f.x, f.y, t.x, t.y]
+    [
+        d.center.x, d.center.y, d.radius, d.from.x, d.from.y, d.to.x, d.to.y,
+    ]
 }
 
 pub fn piece_row(p: Piece) -> PieceRow

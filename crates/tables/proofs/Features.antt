@@ -16,7 +16,6 @@ use Rattle.geometry.specs.declared.Point.{Point}
 use Rattle.mechanism.specs.Check.{check_of}
 use Rattle.mechanism.specs.Description.{pair_at}
 use Rattle.mechanism.specs.Piece.{part_of}
-use Rattle.bodies.specs.declared.Checked.TheVariants.{Accepted}
 use Rattle.mechanism.specs.declared.Mechanism.{Mechanism}
 use Rattle.mechanism.specs.declared.Outlines.{Outlines}
 use Rattle.mechanism.specs.declared.Parts.{Parts}
@@ -40,6 +39,7 @@ use Rattle.strips.proofs.Rows.{piece_back}
 use Rattle.tables.specs.Tables.{up_to, Agrees, face_rows, face_names, disc_rows, disc_names, geometry_of, less_cuts, side_row, sampled_row, pair_sides, pair_centers, pair_choices, face_table, face_name_table, disc_table, disc_name_table, side_table, center_table, choice_table}
 use Rattle.tables.proofs.Known.{faces_a, faces_b, discs_a, discs_b, rows_both}
 use Rattle.tables.proofs.Points.{at-most_is}
+use Rattle.std.proofs.Common.{Ok}
 
 -- ---- a row of a table
 map_get : {A B : Type 0} (g : A → B) (l : List A) (i : ℕ) (d : A) (e : B) → i < length l → get_or (map g l) i e ≡ g (get_or l i d)
@@ -168,7 +168,7 @@ features_of m i = pair_features m.parts m.outlines (pair_at m.pairs i)
 abbrev pub cuts_of : Mechanism → ℕ → Bool
 cuts_of m i = less_cuts (pair_at m.pairs i).geometry
 
-module _ (m : Mechanism) (e : check_of m ≡ Accepted) (i : ℕ) (h : i < m.pairs.count) where
+module _ (m : Mechanism) (e : check_of m ≡ Ok tt) (i : ℕ) (h : i < m.pairs.count) where
   i_small : i < 16
   i_small = let f = (accepted-few m e).pairs.count in omega (arith, f, h)
 

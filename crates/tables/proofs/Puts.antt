@@ -14,10 +14,9 @@ use Rattle.laws.proofs.Choice.{cond_yes, cond_no}
 use Rattle.laws.proofs.Lists.{list_turn, flat_append, flat-short, list_length}
 use Rattle.laws.proofs.Sums.{sum_more}
 use Rattle.laws.proofs.Writing.{sets-append}
-use Rattle.geometry.specs.declared.Dir.{Dir}
 use Rattle.geometry.specs.declared.Point.{Point}
 use Rattle.geometry.specs.declared.Seg.{Seg}
-use Rattle.geometry.specs.declared.Seg.TheVariants.{Line, Arc}
+use Rattle.geometry.specs.declared.Seg.TheVariants.{Line}
 use Rattle.mechanism.specs.Check.{FewParts}
 use Rattle.mechanism.specs.Description.{sum_in, part_at, segs_of, start_of_part}
 use Rattle.mechanism.specs.Segments.{outlines_in}
@@ -29,7 +28,7 @@ use Rattle.material.specs.Material.{Edge}
 use Rattle.drawing.specs.Drawing.{is_sampled, drawn_points, row_of}
 use Rattle.drawing.specs.Samples.{on_line, sample_points, mouths_of, samples_of}
 use Rattle.drawing.proofs.Segments.{Places, places_more, places_end, drawn-short, silhouette_short, silhouette_94, part-within, part-counted}
-use Rattle.drawing.proofs.Mouths.{of-line, of-arc, samples_short}
+use Rattle.drawing.proofs.Mouths.{of-line, samples_short}
 use Rattle.tables.specs.Tables.{up_to, drawn_of, sampled_of, drawn_up_to, sampled_up_to, part_row, drawn_table, sampled_table, part_table}
 use Rattle.tables.specs.declared.Next.{Next}
 
@@ -53,10 +52,6 @@ module _ (at : ℕ) (out₀ : List (List Float)) {s : Seg} {r : ℕ} {out : List
   pub of-line-as_is : {a b : Point} → s ≡ Line a b → (r ≡ at + 17) × (out ≡ sets out₀ at (map row_of (list_in (on_line a b) 17 0)))
       → (r ≡ at + length (sample_points s)) × (out ≡ sets out₀ at (map row_of (sample_points s)))
   of-line-as_is {a} {b} e w = as_is out₀ at (sample_points s) (of-line self at out₀ e (as_placed out₀ at (list_in (on_line a b) 17 0) w))
-
-  pub of-arc_as_is : {c : Point} {x : Float} {from to : Dir} → s ≡ Arc c x from to → (r ≡ at + length (drawn_points (Arc c x from to))) × (out ≡ sets out₀ at (map row_of (drawn_points (Arc c x from to))))
-      → (r ≡ at + length (sample_points s)) × (out ≡ sets out₀ at (map row_of (sample_points s)))
-  of-arc_as_is {c} {x} {from} {to} e w = as_is out₀ at (sample_points s) (of-arc self at out₀ e (as_placed out₀ at (drawn_points (Arc c x from to)) w))
 
 -- the points of a silhouette's segments
 module _ {b : ℕ} {f : Seg → List Point} {l : List Seg} {out₀ : List (List Float)} {at₀ : ℕ} {out : List (List Float)} {at i : ℕ} (p : Places b f self l out₀ at₀ out at i) where

@@ -4,7 +4,8 @@ use native.Mathlib.Omega.{arith}
 use native.Mathlib.Nat.{sub-zero}
 use native.Mathlib.Numerals.{add-one}
 use mathlib.Core.Path.{◌≡◌, refl, sym, ap, ap₂, subst₂, ◌∙◌}
-use mathlib.Core.Bool.{Bool, cond}
+use mathlib.Core.Bool.{Bool, true, false, ◌&&◌, cond}
+use mir.Val.{bool_byte}
 use mathlib.Core.List.{List, [], ◌∷◌, ◌++◌, map}
 use lib.ListN.{length, drop, get_or, set, length-map, drop_of_length-le}
 use lib.Seq.{sets, take_all}
@@ -13,45 +14,36 @@ use Rattle.laws.specs.Lists.{list_in, flat}
 use Rattle.laws.specs.Loops.{Writing}
 use Rattle.laws.proofs.Fill.{fill_end, map-drop}
 use Rattle.laws.proofs.Lists.{list_turn, list_done}
-use Rattle.laws.proofs.Writing.{starts, puts, appends, ends, sets-append}
+use Rattle.laws.proofs.Writing.{starts, appends, ends, sets-append}
 use Rattle.mechanism.specs.Description.{part_at}
 use Rattle.mechanism.specs.declared.Parts.{Parts}
 use Rattle.mechanism.specs.declared.pair.Surface.{Surface}
 use Rattle.drawing.specs.Drawing.{is_own, is_sampled}
+use Rattle.drawing.proofs.Segments.{first-row, next_row}
 use Rattle.sides.specs.declared.SideFeatures.{SideFeatures}
 use Rattle.sides.specs.declared.contacts.PairFeatures.{PairFeatures}
 use Rattle.tables.specs.Tables.{up_to}
 
--- ---- The rows of an array of n elements, written from `at` on: those of the first i are there, and `to` is the next place.
-pub record RowsPut {A B : Type 0} (n : ℕ) (g : B → A) (l : List B) (out₀ : List A) (at : ℕ) (out : List A) (to i : ℕ) : Type 0 where
+-- ---- The rows of an array of n elements, written from `at` on: those of the first i are there.
+pub record RowsPut {A B : Type 0} (n : ℕ) (g : B → A) (l : List B) (out₀ : List A) (at : ℕ) (out : List A) (i : ℕ) : Type 0 where
   pub all : length l ≡ n
-  pub far : i ≤ n
-  pub place : to ≡ at + i
-  pub rows : Writing out₀ at (map g l) out to (map g (drop i l))
+  pub rows : Writing out₀ at (map g l) out (at + i) (map g (drop i l))
 
 module _ {A B : Type 0} {n : ℕ} {g : B → A} {l : List B} {out₀ : List A} {at : ℕ} where
-  pub rows_start : length l ≡ n → RowsPut n g l out₀ at out₀ at 0
-  rows_start e = record { all = e; far = omega arith; place = omega arith; rows = starts refl }
+  pub rows_start : length l ≡ n → RowsPut n g l out₀ at out₀ 0
+  rows_start e = record { all = e; rows = first-row refl }
 
-  pub rows_next : {out : List A} {to i : ℕ} {v : A} (d : B) → i < n → v ≡ g (get_or l i d) → RowsPut n g l out₀ at out to i → RowsPut n g l out₀ at (set out to v) (to + 1) (i + 1)
+  pub rows_next : {out : List A} {i : ℕ} {v : A} (d : B) → i < n → v ≡ g (get_or l i d) → RowsPut n g l out₀ at out i → RowsPut n g l out₀ at (set out (at + i) v) (i + 1)
   rows_next {i = i} d h e w =
       let a = w.all in
-      let p = w.place in
       let k : i < length l = omega (arith, a, h) in
-      record {
-        all = a;
-        far = omega (arith, h);
-        place = omega (arith, p);
-        rows = puts (map-drop g l i d k ∙ ap (λ (x : A). x ∷ map g (drop (i + 1) l)) (sym e)) w.rows;
-      }
+      record { all = a; rows = next_row at i (map-drop g l i d k ∙ ap (λ (x : A). x ∷ map g (drop (i + 1) l)) (sym e)) w.rows }
 
-  pub rows_end : {out : List A} {to i : ℕ} → n ≤ i → RowsPut n g l out₀ at out to i → (to ≡ at + n) × (out ≡ sets out₀ at (map g l))
+  pub rows_end : {out : List A} {i : ℕ} → n ≤ i → RowsPut n g l out₀ at out i → out ≡ sets out₀ at (map g l)
   rows_end {i = i} h w =
       let a = w.all in
-      let f = w.far in
-      let p = w.place in
       let k : length l ≤ i = omega (arith, a, h) in
-      (omega (arith, p, f, h), ends (ap (map g) (drop_of_length-le l k)) w.rows)
+      ends (ap (map g) (drop_of_length-le l k)) w.rows
 
 -- ---- an array that is filled to its end
 pub filled-whole : {A : Type 0} {n i : ℕ} {all l rest : List A} → n ≤ i → rest ≡ [] → Filling n all l i rest → l ≡ all
@@ -65,8 +57,13 @@ turn-as {A} f n i h e = list_turn f n i h ∙ ap (λ (x : A). x ∷ list_in f (n
 abbrev pub sampled_at : Parts → Surface → ℕ → ℕ
 sampled_at ps u i = cond (is_own u i) (cond (is_sampled (part_at ps i)) 1 0) 0
 
-pub sampled_at_lem : (ps : Parts) (u : Surface) (i : ℕ) {t : ℕ} {own sampled : Bool} → t ≡ cond own (cond sampled 1 0) 0 → own ≡ is_own u i → sampled ≡ is_sampled (part_at ps i) → t ≡ sampled_at ps u i
-sampled_at_lem ps u i e p q = e ∙ ap₂ (λ (a b : Bool). cond a (cond b 1 0) 0) p q
+sampled_by : (own sampled : Bool) → bool_byte (own && sampled) ≡ cond own (cond sampled 1 0) 0
+sampled_by true true = refl
+sampled_by true false = refl
+sampled_by false b = refl
+
+pub sampled_at_lem : (ps : Parts) (u : Surface) (i : ℕ) {t : ℕ} {own sampled : Bool} → t ≡ bool_byte (own && sampled) → own ≡ is_own u i → sampled ≡ is_sampled (part_at ps i) → t ≡ sampled_at ps u i
+sampled_at_lem ps u i e p q = e ∙ ap₂ (λ (a b : Bool). bool_byte (a && b)) p q ∙ sampled_by (is_own u i) (is_sampled (part_at ps i))
 
 -- ---- stores one after the other
 module _ {A : Type 0} (l : List A) (k : ℕ) where

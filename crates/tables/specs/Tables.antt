@@ -1,11 +1,9 @@
 -- A description prepared for its readings: the rows of its tables. Definitions only.
-use Rattle.std.specs.Prelude.{ℕ, ◌+◌, ◌*◌, ◌<◌, ◌≡◌, Bool, true, false, cond, List, [], ◌∷◌, ◌++◌, map, length, get_or, Float}
+use Rattle.std.specs.Prelude.{ℕ, ◌+◌, ◌*◌, ◌<◌, ◌≡◌, Bool, true, false, cond, List, [], ◌∷◌, ◌++◌, map, length, get_or, Float, Ok, Err}
 use Rattle.std.proofs.lemmas.List.Edits.{sets}
 use Rattle.laws.specs.Lists.{list_in, flat}
 use Rattle.geometry.specs.declared.Point.{Point}
 use Rattle.mechanism.specs.Description.{part_at, pair_at}
-use Rattle.bodies.specs.declared.Checked.{Checked}
-use Rattle.bodies.specs.declared.Checked.TheVariants.{Accepted, Refused}
 use Rattle.mechanism.specs.declared.Mechanism.{Mechanism}
 use Rattle.mechanism.specs.declared.Outlines.{Outlines}
 use Rattle.mechanism.specs.declared.Parts.{Parts}
@@ -20,6 +18,7 @@ use Rattle.drawing.specs.Samples.{mouths_of, samples_of}
 use Rattle.sides.specs.Contacts.{pair_features}
 use Rattle.sides.specs.declared.SideFeatures.{SideFeatures}
 use Rattle.strips.specs.Strips.{face_row, disc_row, piece_row}
+use Rattle.bodies.specs.Check.{Checked}
 
 abbrev pub up_to : ℕ → List ℕ
 up_to n = list_in (λ i. i) n 0
@@ -134,5 +133,5 @@ module _ (m : Mechanism) where
 
 -- what is written where the description is accepted
 abbrev pub written_if : {A : Type 0} → Checked → List A → List A → List A
-written_if Accepted before rows = sets before 0 rows
-written_if (Refused p) before rows = before
+written_if (Ok tt) before rows = sets before 0 rows
+written_if (Err p) before rows = before

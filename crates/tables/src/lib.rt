@@ -1,11 +1,10 @@
 // Prepares a description for its readings: writes the rows of its tables.
 #![tactic(auto)]
 
-ghost use Rattle.std.specs.Prelude.{◌≡◌, true, cond, ◌∷◌, [], map, ◌+◌, ◌*◌, ◌<◌, ◌≤◌, length};
+ghost use Rattle.std.specs.Prelude.{◌≡◌, true, ◌∷◌, [], map, ◌+◌, ◌*◌, ◌<◌, ◌≤◌, length};
 ghost use Rattle.std.proofs.lemmas.List.Edits.{sets};
 ghost use Rattle.laws.specs.Lists.{list_in, flat};
 ghost use Rattle.mechanism.specs.Check.{check_of, pair_drawn, FewParts};
-ghost use Rattle.bodies.specs.declared.Checked.TheVariants.{Accepted, Refused};
 ghost use Rattle.mechanism.specs.Description.{start_of_part};
 ghost use Rattle.mechanism.specs.Segments.{outlines_in};
 ghost use Rattle.silhouette.specs.Silhouette.{silhouette_from, silhouette_count};
@@ -13,18 +12,17 @@ ghost use Rattle.drawing.specs.Drawing.{drawn_points, row_of};
 ghost use Rattle.drawing.specs.Samples.{on_line, sample_points, samples_of, mouths_of, mouths_in};
 ghost use Rattle.tables.specs.Tables.{drawn_of, sampled_of, drawn_up_to, sampled_up_to, drawn_table, sampled_table, part_table, face_rows, face_names, disc_rows, disc_names, geometry_of, side_row, sampled_row, less_cuts, pair_faces, pair_face_names, pair_discs, pair_disc_names, pair_sides, pair_centers, pair_choices, face_table, face_name_table, disc_table, disc_name_table, side_table, center_table, choice_table, written_if};
 
-use bodies::Checked;
+use bodies::Problem;
 use drawing::samples::{Mouth, draw_mouths, is_mouth, on_line};
-use drawing::{Chosen, is_own, is_sampled, side_chosen};
-use geometry::{Drawn, Point, Seg};
+use drawing::{is_own, is_sampled, side_chosen};
+use geometry::{Point, Seg};
 use mechanism::check::{check, segs_counted};
-use mechanism::features::Piece;
 use mechanism::pair::{ContactPair, PairGeometry, Surface};
 use mechanism::part::Part;
 use mechanism::segments::{SegRow, put_segs};
-use mechanism::{Mechanism, Outlines, Pairs, Parts};
+use mechanism::{Mechanism, Outlines, Parts};
+use sides::SideFeatures;
 use sides::contacts::{PairFeatures, pair_features_at};
-use sides::{PlacedDisc, PlacedFace, PlacedPoint, SideFeatures};
 use silhouette::rows::{silhouette_count, silhouette_seg};
 use strips::{
     ChoiceRow, DiscRow, FaceRow, PartRow, PieceRow, PointRow, SideRow, disc_row, face_row,
@@ -69,14 +67,11 @@ fn put_drawn_seg(out: &mut [PointRow], at: usize, s: Seg) -> usize
     ensures { (result ≡ at + length (drawn_points s)) × (out.new ≡ sets out.old at (map row_of (drawn_points s))) }
 {
     let d = s.drawn();
-    let n = d.count;
-    let mut k: usize = 0;
-    while k < n {
+    for k in 0..d.count {
         let p = d.points[k];
         out[at + k] = [p.x, p.y];
-        k += 1;
     }
-    at + k
+    at + d.count
 }
 
 // Writes the silhouette of a part whose outline starts in row `first` as it is drawn, from `at` on.
@@ -84,12 +79,9 @@ fn put_drawn(out: &mut [PointRow], at: usize, segs: &[SegRow], first: usize, p: 
     requires { (p.segs ≤ 48) × (first + p.segs ≤ length segs.now) × (at + 8 * silhouette_count p ≤ length out.old) }
     ensures { (result ≡ at + length (flat drawn_points (silhouette_from (outlines_in segs.now) first p))) × (out.new ≡ sets out.old at (map row_of (flat drawn_points (silhouette_from (outlines_in segs.now) first p)))) }
 {
-    let n = silhouette_count(p);
     let mut to = at;
-    let mut i: usize = 0;
-    while i < n {
+    for i in 0..silhouette_count(p) {
         to = put_drawn_seg(out, to, silhouette_seg(segs, first, p, i));
-        i += 1;
     }
     to
 }
@@ -99,15 +91,11 @@ fn put_line(out: &mut [PointRow], at: usize, a: Point, b: Point) -> usize
     requires { at + 17 ≤ length out.old }
     ensures { (result ≡ at + 17) × (out.new ≡ sets out.old at (map row_of (list_in (on_line a b) 17 0))) }
 {
-    let mut k: u32 = 0;
-    let mut to = at;
-    while k < 17 {
-        let p = on_line(a, b, k);
-        out[to] = [p.x, p.y];
-        k += 1;
-        to += 1;
+    for k in 0..17 {
+        let p = on_line(a, b, k as u32);
+        out[at + k] = [p.x, p.y];
     }
-    to
+    at + 17
 }
 
 fn put_points(out: &mut [PointRow], at: usize, s: Seg) -> usize
@@ -116,7 +104,7 @@ fn put_points(out: &mut [PointRow], at: usize, s: Seg) -> usize
 {
     match s {
         Seg::Line { a, b } => put_line(out, at, a, b),
-        Seg::Arc { c, r, from, to } => put_drawn_seg(out, at, Seg::Arc { c, r, from, to }),
+        Seg::Arc { .. } => put_drawn_seg(out, at, s),
     }
 }
 
@@ -143,12 +131,9 @@ fn put_sampled(
     requires { (p.segs ≤ 48) × (first + p.segs ≤ length segs.now) × (at + 17 * silhouette_count p ≤ length out.old) }
     ensures { (result ≡ at + length (flat (samples_of (mouths_in mouths.now)) (silhouette_from (outlines_in segs.now) first p))) × (out.new ≡ sets out.old at (map row_of (flat (samples_of (mouths_in mouths.now)) (silhouette_from (outlines_in segs.now) first p)))) }
 {
-    let n = silhouette_count(p);
     let mut to = at;
-    let mut i: usize = 0;
-    while i < n {
+    for i in 0..silhouette_count(p) {
         to = put_sampled_seg(out, to, silhouette_seg(segs, first, p, i), mouths);
-        i += 1;
     }
     to
 }
@@ -176,16 +161,14 @@ fn put_part_points(
 {
     let p = ps.part[i];
     let d = put_drawn(drawn, at.drawn, segs, first, p);
-    if is_sampled(p) {
-        let s = put_sampled(sampled, at.sampled, segs, first, p, mouths);
-        return Next {
-            drawn: d,
-            sampled: s,
-        };
-    }
+    let s = if is_sampled(p) {
+        put_sampled(sampled, at.sampled, segs, first, p, mouths)
+    } else {
+        at.sampled
+    };
     Next {
         drawn: d,
-        sampled: at.sampled,
+        sampled: s,
     }
 }
 
@@ -201,14 +184,12 @@ fn put_parts(
     requires { FewParts ps × (start_of_part ps ps.count ≤ length segs.now) × (mouths_in mouths.now ≡ mouths_of ps (outlines_in segs.now)) × (6144 ≤ length drawn.old) × (13056 ≤ length sampled.old) × (32 ≤ length parts.old) }
     ensures { (drawn.new ≡ sets drawn.old 0 (drawn_table ps (outlines_in segs.now))) × (sampled.new ≡ sets sampled.old 0 (sampled_table ps (outlines_in segs.now))) × (parts.new ≡ sets parts.old 0 (part_table ps (outlines_in segs.now))) }
 {
-    let n = ps.count;
     let mut first: usize = 0;
     let mut at = Next {
         drawn: 0,
         sampled: 0,
     };
-    let mut i: usize = 0;
-    while i < n {
+    for i in 0..ps.count {
         let p = ps.part[i];
         let to = put_part_points(drawn, sampled, ps, segs, mouths, i, first, at);
         parts[i] = [
@@ -220,7 +201,6 @@ fn put_parts(
         ];
         at = to;
         first += p.segs;
-        i += 1;
     }
 }
 
@@ -245,69 +225,43 @@ fn put_all_parts(
 // ---- features
 
 // Writes the rows of a side's twelve faces, from `at` on.
-fn put_faces(out: &mut [FaceRow], at: usize, s: SideFeatures) -> usize
+fn put_faces(out: &mut [FaceRow], at: usize, s: SideFeatures)
     requires { at + 12 ≤ length out.old }
-    ensures { (result ≡ at + 12) × (out.new ≡ sets out.old at (face_rows s)) }
+    ensures { out.new ≡ sets out.old at (face_rows s) }
 {
-    let mut to = at;
-    let mut i: usize = 0;
-    while i < 12 {
-        let p = s.face[i];
-        out[to] = face_row(p.face);
-        to += 1;
-        i += 1;
+    for i in 0..12 {
+        out[at + i] = face_row(s.face[i].face);
     }
-    to
 }
 
 // Writes the pieces of a side's twelve faces, from `at` on.
-fn put_face_names(out: &mut [PieceRow], at: usize, s: SideFeatures) -> usize
+fn put_face_names(out: &mut [PieceRow], at: usize, s: SideFeatures)
     requires { at + 12 ≤ length out.old }
-    ensures { (result ≡ at + 12) × (out.new ≡ sets out.old at (face_names s)) }
+    ensures { out.new ≡ sets out.old at (face_names s) }
 {
-    let mut to = at;
-    let mut i: usize = 0;
-    while i < 12 {
-        let p = s.face[i];
-        let x = p.piece;
-        out[to] = piece_row(x);
-        to += 1;
-        i += 1;
+    for i in 0..12 {
+        out[at + i] = piece_row(s.face[i].piece);
     }
-    to
 }
 
 // Writes the rows of a side's twenty-eight discs, from `at` on.
-fn put_discs(out: &mut [DiscRow], at: usize, s: SideFeatures) -> usize
+fn put_discs(out: &mut [DiscRow], at: usize, s: SideFeatures)
     requires { at + 28 ≤ length out.old }
-    ensures { (result ≡ at + 28) × (out.new ≡ sets out.old at (disc_rows s)) }
+    ensures { out.new ≡ sets out.old at (disc_rows s) }
 {
-    let mut to = at;
-    let mut i: usize = 0;
-    while i < 28 {
-        let p = s.disc[i];
-        out[to] = disc_row(p.disc);
-        to += 1;
-        i += 1;
+    for i in 0..28 {
+        out[at + i] = disc_row(s.disc[i].disc);
     }
-    to
 }
 
 // Writes the pieces of a side's twenty-eight discs, from `at` on.
-fn put_disc_names(out: &mut [PieceRow], at: usize, s: SideFeatures) -> usize
+fn put_disc_names(out: &mut [PieceRow], at: usize, s: SideFeatures)
     requires { at + 28 ≤ length out.old }
-    ensures { (result ≡ at + 28) × (out.new ≡ sets out.old at (disc_names s)) }
+    ensures { out.new ≡ sets out.old at (disc_names s) }
 {
-    let mut to = at;
-    let mut i: usize = 0;
-    while i < 28 {
-        let p = s.disc[i];
-        let x = p.piece;
-        out[to] = piece_row(x);
-        to += 1;
-        i += 1;
+    for i in 0..28 {
+        out[at + i] = piece_row(s.disc[i].piece);
     }
-    to
 }
 
 // Writes the features of a side, number k of all.
@@ -340,10 +294,7 @@ fn geometry_of(g: PairGeometry) -> usize
 fn less_cuts(g: PairGeometry) -> bool
     ensures { result ≡ less_cuts g }
 {
-    match g {
-        PairGeometry::Features => true,
-        PairGeometry::CenterBearing => false,
-    }
+    matches!(g, PairGeometry::Features)
 }
 
 // The row of side k, whose pair has the geometry g.
@@ -351,23 +302,15 @@ fn side_row(k: usize, g: PairGeometry, s: SideFeatures) -> SideRow
     requires { k < 32 }
     ensures { result ≡ side_row k g s }
 {
-    let c = s.center;
-    let piece = c.piece;
     [
         s.body,
         12 * k,
         s.faces,
         28 * k,
         s.discs,
-        mechanism::features::part(piece),
+        mechanism::features::part(s.center.piece),
         geometry_of(g),
     ]
-}
-
-fn one_if(a: bool, b: bool) -> u8
-    ensures { result ≡ cond a (cond b 1 0) 0 }
-{
-    if a { if b { 1 } else { 0 } } else { 0 }
 }
 
 // The parts sampled for a side.
@@ -375,11 +318,8 @@ fn sampled_row(ps: Parts, u: Surface) -> ChoiceRow
     ensures { result ≡ sampled_row ps u }
 {
     let mut what = [0u8; 32];
-    let mut i: usize = 0;
-    while i < 32 {
-        let p = ps.part[i];
-        what[i] = one_if(is_own(u, i), is_sampled(p));
-        i += 1;
+    for i in 0..32 {
+        what[i] = u8::from(is_own(u, i) & is_sampled(ps.part[i]));
     }
     what
 }
@@ -387,8 +327,7 @@ fn sampled_row(ps: Parts, u: Surface) -> ChoiceRow
 fn center_row(s: SideFeatures) -> PointRow
     ensures { result ≡ row_of s.center.point }
 {
-    let c = s.center;
-    let p = c.point;
+    let p = s.center.point;
     [p.x, p.y]
 }
 
@@ -399,18 +338,13 @@ fn put_choices(choices: &mut [ChoiceRow], i: usize, ps: Parts, o: Outlines, p: C
     requires { (i < 16) × (64 ≤ length choices.old) }
     ensures { choices.new ≡ sets choices.old (4 * i) (pair_choices ps o p) }
 {
-    let a = p.a;
-    let b = p.b;
-    let g = p.geometry;
-    let cuts = less_cuts(g);
-    let ca = side_chosen(ps, a, cuts);
-    let cb = side_chosen(ps, b, cuts);
-    let wa = ca.what;
-    let wb = cb.what;
-    choices[4 * i] = wa;
-    choices[4 * i + 1] = sampled_row(ps, a);
-    choices[4 * i + 2] = wb;
-    choices[4 * i + 3] = sampled_row(ps, b);
+    let cuts = less_cuts(p.geometry);
+    let of_a = side_chosen(ps, p.a, cuts).what;
+    let of_b = side_chosen(ps, p.b, cuts).what;
+    choices[4 * i] = of_a;
+    choices[4 * i + 1] = sampled_row(ps, p.a);
+    choices[4 * i + 2] = of_b;
+    choices[4 * i + 3] = sampled_row(ps, p.b);
 }
 
 // Writes the sides and centres of pair i.
@@ -424,12 +358,10 @@ fn put_sides(
     requires { (i < 16) × (32 ≤ length sides.old) × (32 ≤ length centers.old) }
     ensures { (sides.new ≡ sets sides.old (2 * i) (side_row (2 * i) g f.a ∷ side_row (2 * i + 1) g f.b ∷ [])) × (centers.new ≡ sets centers.old (2 * i) (row_of f.a.center.point ∷ row_of f.b.center.point ∷ [])) }
 {
-    let a = f.a;
-    let b = f.b;
-    sides[2 * i] = side_row(2 * i, g, a);
-    sides[2 * i + 1] = side_row(2 * i + 1, g, b);
-    centers[2 * i] = center_row(a);
-    centers[2 * i + 1] = center_row(b);
+    sides[2 * i] = side_row(2 * i, g, f.a);
+    sides[2 * i + 1] = side_row(2 * i + 1, g, f.b);
+    centers[2 * i] = center_row(f.a);
+    centers[2 * i + 1] = center_row(f.b);
 }
 
 // Writes pair i.
@@ -450,12 +382,9 @@ fn put_pair(
     ensures { (faces.new ≡ sets faces.old (24 * i) (pair_faces ps o p)) × (fnames.new ≡ sets fnames.old (24 * i) (pair_face_names ps o p)) × (discs.new ≡ sets discs.old (56 * i) (pair_discs ps o p)) × (dnames.new ≡ sets dnames.old (56 * i) (pair_disc_names ps o p)) × (sides.new ≡ sets sides.old (2 * i) (pair_sides ps o p i)) × (centers.new ≡ sets centers.old (2 * i) (pair_centers ps o p)) × (choices.new ≡ sets choices.old (4 * i) (pair_choices ps o p)) }
 {
     let f = pair_features_at(ps, o, p);
-    let a = f.a;
-    let b = f.b;
-    let g = p.geometry;
-    put_side(faces, fnames, discs, dnames, 2 * i, a);
-    put_side(faces, fnames, discs, dnames, 2 * i + 1, b);
-    put_sides(sides, centers, i, g, f);
+    put_side(faces, fnames, discs, dnames, 2 * i, f.a);
+    put_side(faces, fnames, discs, dnames, 2 * i + 1, f.b);
+    put_sides(sides, centers, i, p.geometry, f);
     put_choices(choices, i, ps, o, p);
 }
 
@@ -470,20 +399,23 @@ fn put_pairs(
     choices: &mut [ChoiceRow],
     m: Mechanism,
 )
-    requires { (check_of m ≡ Accepted) × (384 ≤ length faces.old) × (384 ≤ length fnames.old) × (896 ≤ length discs.old) × (896 ≤ length dnames.old) × (32 ≤ length sides.old) × (32 ≤ length centers.old) × (64 ≤ length choices.old) }
+    requires { (check_of m ≡ Ok tt) × (384 ≤ length faces.old) × (384 ≤ length fnames.old) × (896 ≤ length discs.old) × (896 ≤ length dnames.old) × (32 ≤ length sides.old) × (32 ≤ length centers.old) × (64 ≤ length choices.old) }
     ensures { (faces.new ≡ sets faces.old 0 (face_table m)) × (fnames.new ≡ sets fnames.old 0 (face_name_table m)) × (discs.new ≡ sets discs.old 0 (disc_table m)) × (dnames.new ≡ sets dnames.old 0 (disc_name_table m)) × (sides.new ≡ sets sides.old 0 (side_table m)) × (centers.new ≡ sets centers.old 0 (center_table m)) × (choices.new ≡ sets choices.old 0 (choice_table m)) }
 {
-    let ps = m.parts;
-    let o = m.outlines;
-    let pairs = m.pairs;
-    let n = pairs.count;
-    let mut i: usize = 0;
-    while i < n {
-        let p = pairs.pair[i];
+    for i in 0..m.pairs.count {
         put_pair(
-            faces, fnames, discs, dnames, sides, centers, choices, i, ps, o, p,
+            faces,
+            fnames,
+            discs,
+            dnames,
+            sides,
+            centers,
+            choices,
+            i,
+            m.parts,
+            m.outlines,
+            m.pairs.pair[i],
         );
-        i += 1;
     }
 }
 
@@ -500,21 +432,14 @@ pub fn prepare(
     sides: &mut SideRows,
     centers: &mut CenterRows,
     choices: &mut ChoiceRows,
-) -> Checked
+) -> Result<(), Problem>
     ensures value { result ≡ check_of m }
     ensures drawn_after { (drawn.new ≡ written_if (check_of m) drawn.old (drawn_table m.parts m.outlines)) × (sampled.new ≡ written_if (check_of m) sampled.old (sampled_table m.parts m.outlines)) × (parts.new ≡ written_if (check_of m) parts.old (part_table m.parts m.outlines)) }
     ensures faces_after { (faces.new ≡ written_if (check_of m) faces.old (face_table m)) × (fnames.new ≡ written_if (check_of m) fnames.old (face_name_table m)) × (discs.new ≡ written_if (check_of m) discs.old (disc_table m)) × (dnames.new ≡ written_if (check_of m) dnames.old (disc_name_table m)) }
     ensures sides_after { (sides.new ≡ written_if (check_of m) sides.old (side_table m)) × (centers.new ≡ written_if (check_of m) centers.old (center_table m)) × (choices.new ≡ written_if (check_of m) choices.old (choice_table m)) }
 {
-    let c = check(m);
-    match c {
-        Checked::Accepted => {
-            let ps = m.parts;
-            let o = m.outlines;
-            put_all_parts(drawn, sampled, parts, ps, o);
-            put_pairs(faces, fnames, discs, dnames, sides, centers, choices, m);
-            Checked::Accepted
-        }
-        Checked::Refused(p) => Checked::Refused(p),
-    }
+    check(m)?;
+    put_all_parts(drawn, sampled, parts, m.parts, m.outlines);
+    put_pairs(faces, fnames, discs, dnames, sides, centers, choices, m);
+    Ok(())
 }

@@ -1,7 +1,7 @@
 -- Laws of the loops that read fields: each record says how far a loop has come. Assumes nothing.
 use Prim.Native.Nat.{ℕ, suc, ◌+◌, ◌*◌, ◌-◌, ◌^◌, ◌<◌, ◌≤◌}
 use mathlib.Core.Path.{◌≡◌, refl, sym, ap, ap₂, ◌∙◌}
-use mathlib.Core.Bool.{Bool, true, false, ◌&&◌, ◌||◌}
+use mathlib.Core.Bool.{Bool, true, false, cond, ◌&&◌, ◌||◌}
 use mathlib.Core.List.{List, [], ◌∷◌}
 use native.Mathlib.Omega.{arith}
 use native.Mathlib.Numerals.{add-one}
@@ -17,9 +17,8 @@ use Rattle.text.specs.Lists.{all_of, fold_of}
 use Rattle.text.specs.Pieces.{split}
 use Rattle.text.proofs.Lists.{all_yes, all-no, all_done, fold_turn, fold_done}
 use Rattle.text.proofs.Pieces.{Piece, at_least_one}
-use Rattle.text.specs.Fields.{is_digit, written, tens, decimal, number_of, whole_or_0, is_hex, hex_of, sixteens, pattern, float_of, is_kind, fits_form, field_at}
-use Rattle.text.specs.declared.fields.Whole.TheVariants.{Number, NoNumber}
-use Rattle.text.specs.declared.fields.Real.TheVariants.{Value, NoValue}
+use Rattle.text.specs.Fields.{is_digit, written, tens, decimal, number_of, is_hex, hex_of, sixteens, pattern, float_of, is_kind, fits_form, field_at}
+use Rattle.std.proofs.Common.{Option, Some, None, unwrap_or}
 
 -- a number only grows with more digits
 pub decimal-grows : (ds : List ℕ) (v : ℕ) → v ≤ fold_of tens v ds
@@ -31,10 +30,37 @@ pub digit-range : (b : ℕ) → is_digit b ≡ true → (48 ≤ b) × (b ≤ 57)
 digit-range b e = (leb-true 48 b (both (leb 48 b) (leb b 57) e).0, leb-true b 57 (both (leb 48 b) (leb b 57) e).1)
 
 -- ---- hexadecimal digits
-pub hex_range : (b : ℕ) → is_hex b ≡ true → is_digit b ≡ false → (97 ≤ b) × (b ≤ 102)
-hex_range b e f =
-    let g : (leb 97 b && leb b 102) ≡ true = ap (λ (x : Bool). x || (leb 97 b && leb b 102)) (sym f) ∙ e in
-    (leb-true 97 b (both (leb 97 b) (leb b 102) g).0, leb-true b 102 (both (leb 97 b) (leb b 102) g).1)
+module _ (b : ℕ) where
+  -- the value that a byte has, if any
+  abbrev pub hex_or : Option ℕ
+  hex_or = cond (is_hex b) (Some (hex_of b)) None
+
+  hex_less : is_hex b ≡ true → hex_of b < 16
+  hex_less e = go (is_digit b) refl
+    where
+      go : (t : Bool) → is_digit b ≡ t → hex_of b < 16
+      go true d = let q : hex_of b ≡ b - 48 = cond_yes _ _ d in omega (arith, digit-range b d)
+      go false d =
+          let g : (leb 97 b && leb b 102) ≡ true = ap (λ (x : Bool). x || (leb 97 b && leb b 102)) (sym d) ∙ e in
+          let q : hex_of b ≡ b - 97 + 10 = cond_no _ _ d in
+          omega (arith, leb-true b 102 (both (leb 97 b) (leb b 102) g).1)
+
+  no-value : None ≡ hex_or → is_hex b ≡ false
+  no-value e = go (is_hex b) refl
+    where
+      go : (t : Bool) → is_hex b ≡ t → is_hex b ≡ false
+      go true h = let q : hex_or ≡ Some (hex_of b) = cond_yes _ _ h in cc
+      go false h = h
+
+  a-value : {x : ℕ} → Some x ≡ hex_or → (is_hex b ≡ true) × (x ≡ hex_of b) × (x < 16)
+  a-value {x} e = go (is_hex b) refl
+    where
+      go : (t : Bool) → is_hex b ≡ t → (is_hex b ≡ true) × (x ≡ hex_of b) × (x < 16)
+      go true h =
+          let q : hex_or ≡ Some (hex_of b) = cond_yes _ _ h in
+          let p : x ≡ hex_of b = cc in
+          (h, p, omega (arith, hex_less h))
+      go false h = let q : hex_or ≡ None = cond_no _ _ h in cc
 
 pub hex_more : (v d k : ℕ) → v < 2 ^ (4 * k) → d < 16 → v * 16 + d < 2 ^ (4 * (k + 1))
 hex_more v d k h l = rw (mul-add 4 k 1, pow-add 2 (4 * k) 4) (omega arith)
@@ -50,7 +76,7 @@ pub record Digits (f : List ℕ) (i v : ℕ) : Type 0 where
   pub all : all_of is_digit (drop i f) ≡ all_of is_digit f
   pub value : fold_of tens v (drop i f) ≡ decimal f
 
-pub not_written : (f : List ℕ) → written f ≡ false → NoNumber ≡ number_of f
+pub not_written : (f : List ℕ) → written f ≡ false → None ≡ number_of f
 unfolding number_of
 not_written f e = sym (cond_no _ _ (and_no _ e))
 
@@ -60,14 +86,14 @@ module _ (f : List ℕ) where
   digits-start e = record { far = omega arith; good = e; small = omega arith; all = refl; value = refl }
 
 module _ {f : List ℕ} {i v : ℕ} (h : i < length f) (d : Digits f i v) where
-  pub not_digit : is_digit (get_or f i 0) ≡ false → NoNumber ≡ number_of f
+  pub not_digit : is_digit (get_or f i 0) ≡ false → None ≡ number_of f
   unfolding number_of
   not_digit e = sym (cond_no _ _ (no_and (written f) (and_no _ (sym d.all ∙ all-no is_digit f i h e))))
 
   grown : fold_of tens (tens v (get_or f i 0)) (drop (i + 1) f) ≡ decimal f
   grown = sym (fold_turn tens v f i h) ∙ d.value
 
-  pub too_large : 65535 < tens v (get_or f i 0) → NoNumber ≡ number_of f
+  pub too_large : 65535 < tens v (get_or f i 0) → None ≡ number_of f
   unfolding number_of
   too_large l =
       let g : 65535 < decimal f = omega (arith, decimal-grows (drop (i + 1) f) (tens v (get_or f i 0)), grown) in
@@ -76,27 +102,27 @@ module _ {f : List ℕ} {i v : ℕ} (h : i < length f) (d : Digits f i v) where
   pub digits_more : is_digit (get_or f i 0) ≡ true → tens v (get_or f i 0) ≤ 65535 → Digits f (i + 1) (tens v (get_or f i 0))
   digits_more e l = record { far = omega arith; good = d.good; small = l; all = sym (all_yes is_digit f i h e) ∙ d.all; value = grown }
 
-pub digits-end : {f : List ℕ} {i v : ℕ} → length f ≤ i → Digits f i v → Number v ≡ number_of f
+pub digits-end : {f : List ℕ} {i v : ℕ} → length f ≤ i → Digits f i v → Some v ≡ number_of f
 unfolding number_of
 digits-end {f} {i} {v} h d =
     let a : all_of is_digit f ≡ true = sym d.all ∙ all_done is_digit f i h in
     let e : v ≡ decimal f = sym (fold_done tens v f i h) ∙ d.value in
     let s : leb (decimal f) 65535 ≡ true = ap (λ (n : ℕ). leb n 65535) (sym e) ∙ le-leb v 65535 d.small in
-    ap Number e ∙ sym (cond_yes _ _ (and_yes _ d.good ∙ and_yes _ a ∙ s))
+    ap Some e ∙ sym (cond_yes _ _ (and_yes _ d.good ∙ and_yes _ a ∙ s))
 
 -- a whole number is at most 65,535
-pub number_small : (f : List ℕ) → whole_or_0 (number_of f) ≤ 65535
+pub number_small : (f : List ℕ) → unwrap_or (number_of f) 0 ≤ 65535
 unfolding number_of
 number_small f = go (written f && (all_of is_digit f && leb (decimal f) 65535)) refl
   where
-    go : (t : Bool) → (written f && (all_of is_digit f && leb (decimal f) 65535)) ≡ t → whole_or_0 (number_of f) ≤ 65535
+    go : (t : Bool) → (written f && (all_of is_digit f && leb (decimal f) 65535)) ≡ t → unwrap_or (number_of f) 0 ≤ 65535
     go true e =
         let h = both (all_of is_digit f) (leb (decimal f) 65535) (both (written f) _ e).1 in
-        let q : number_of f ≡ Number (decimal f) = cond_yes _ _ e in
-        omega (arith, leb-true (decimal f) 65535 h.1, ap whole_or_0 q)
+        let q : number_of f ≡ Some (decimal f) = cond_yes _ _ e in
+        omega (arith, leb-true (decimal f) 65535 h.1, ap (λ (w : Option ℕ). unwrap_or w 0) q)
     go false e =
-        let q : number_of f ≡ NoNumber = cond_no _ _ e in
-        omega (arith, ap whole_or_0 q)
+        let q : number_of f ≡ None = cond_no _ _ e in
+        omega (arith, ap (λ (w : Option ℕ). unwrap_or w 0) q)
 
 -- ---- a float that has been read up to k, and whose pattern is v so far
 pub record Hexes (f : List ℕ) (k v : ℕ) : Type 0 where
@@ -106,7 +132,7 @@ pub record Hexes (f : List ℕ) (k v : ℕ) : Type 0 where
   pub all : all_of is_hex (drop k f) ≡ all_of is_hex f
   pub value : fold_of sixteens v (drop k f) ≡ pattern f
 
-pub not_sixteen : (f : List ℕ) → (length f ≡ 16 → ⊥) → NoValue ≡ float_of f
+pub not_sixteen : (f : List ℕ) → (length f ≡ 16 → ⊥) → None ≡ float_of f
 unfolding float_of
 not_sixteen f e = sym (cond_no _ _ (and_no _ (ne_eqb (length f) 16 e)))
 
@@ -115,36 +141,39 @@ unfolding pattern
 hexes_start f e = record { far = omega arith; long = e; small = omega arith; all = refl; value = refl }
 
 module _ {f : List ℕ} {k v : ℕ} (h : k < length f) (d : Hexes f k v) where
-  pub not_hex : is_hex (get_or f k 0) ≡ false → NoValue ≡ float_of f
+  pub not_hex : None ≡ hex_or (get_or f k 0) → None ≡ float_of f
   unfolding float_of
-  not_hex e = sym (cond_no _ _ (no_and (eqb (length f) 16) (sym d.all ∙ all-no is_hex f k h e)))
+  not_hex e = sym (cond_no _ _ (no_and (eqb (length f) 16) (sym d.all ∙ all-no is_hex f k h (no-value (get_or f k 0) e))))
 
-  pub hexes_more : (x : ℕ) → is_hex (get_or f k 0) ≡ true → x ≡ hex_of (get_or f k 0) → x < 16 → Hexes f (k + 1) (v * 16 + x)
-  hexes_more x e p l = record {
-    far = omega arith;
-    long = d.long;
-    small = hex_more v x k d.small l;
-    all = sym (all_yes is_hex f k h e) ∙ d.all;
-    value = ap (λ (n : ℕ). fold_of sixteens (v * 16 + n) (drop (k + 1) f)) p ∙ sym (fold_turn sixteens v f k h) ∙ d.value;
-  }
+  pub hexes_more : {x : ℕ} → Some x ≡ hex_or (get_or f k 0) → Hexes f (k + 1) (v * 16 + x)
+  hexes_more {x} e =
+      let b = a-value (get_or f k 0) e in
+      record {
+        far = omega arith;
+        long = d.long;
+        small = hex_more v x k d.small b.2;
+        all = sym (all_yes is_hex f k h b.0) ∙ d.all;
+        value = ap (λ (n : ℕ). fold_of sixteens (v * 16 + n) (drop (k + 1) f)) b.1 ∙ sym (fold_turn sixteens v f k h) ∙ d.value;
+      }
 
   pub hexes_room : v < 2 ^ 60
   hexes_room = hex_room v k d.small (omega (arith, d.long))
 
-pub hexes_end : {f : List ℕ} {k v : ℕ} {x : Float} → length f ≤ k → Hexes f k v → x ≡ of_bits binary64 v → Value x ≡ float_of f
+-- sixteen digits fit 64 bits
+pub hexes_small : {f : List ℕ} {k v : ℕ} → Hexes f k v → v < 2 ^ 64
+hexes_small {f} {k} {v} d = native.Mathlib.Nat.lt_of_lt_of_le d.small (pow_mono {i = 4 * k} {j = 64} (omega (arith, d.far, d.long)))
+
+pub hexes_end : {f : List ℕ} {k v : ℕ} {x : Float} → length f ≤ k → Hexes f k v → x ≡ of_bits binary64 v → Some x ≡ float_of f
 unfolding float_of
 hexes_end {f} {k} {v} h d o =
     let a : all_of is_hex f ≡ true = sym d.all ∙ all_done is_hex f k h in
     let e : v ≡ pattern f = sym (fold_done sixteens v f k h) ∙ d.value in
-    ap Value (o ∙ ap (of_bits binary64) e) ∙ sym (cond_yes _ _ (and_yes _ (eq-eqb (length f) 16 d.long) ∙ a))
+    ap Some (o ∙ ap (of_bits binary64) e) ∙ sym (cond_yes _ _ (and_yes _ (eq-eqb (length f) 16 d.long) ∙ a))
 
 -- ---- a line of which j fields fit, the next starting at `at`
 pub record Fitting (line form : List ℕ) (at j : ℕ) : Type 0 where
   pub within : at ≤ length line
   pub same : fits_form (drop j form) (split 44 (drop at line)) ≡ fits_form form (split 44 line)
-
-pub fitting-starts : (line form : List ℕ) → Fitting line form 0 0
-fitting-starts line form = record { within = omega arith; same = refl }
 
 -- a form that is used up fits no more fields
 used : (form : List ℕ) (j : ℕ) → j ≤ length form → fits_form (drop j form) [] ≡ eqb j (length form)
@@ -195,17 +224,14 @@ pub record Passing (line : List ℕ) (j at i : ℕ) : Type 0 where
   pub far : i ≤ j
   pub same : field_at (split 44 (drop at line)) (j - i) ≡ field_at (split 44 line) j
 
-pub passing_starts : (line : List ℕ) (j : ℕ) → Passing line j 0 0
-passing_starts line j = let e : j - 0 ≡ j = omega arith in record { within = omega arith; far = omega arith; same = ap (field_at (split 44 line)) e }
-
 nothing : (n : ℕ) (l : List ℕ) → n ≡ 0 → take n l ≡ []
 nothing n l e = ap (λ (k : ℕ). take k l) e
 
 module _ {line : List ℕ} {j at i e : ℕ} (w : Passing line j at i) (p : Piece line 44 at e) where
-  pub passes-end : i < j → e ≡ length line → take (e - e) (drop e line) ≡ field_at (split 44 line) j
+  pub passes-end : i < j → e ≡ length line → take (length line - e) (drop e line) ≡ field_at (split 44 line) j
   passes-end h q =
       let one : j - i ≡ suc (j - i - 1) = omega arith in
-      nothing (e - e) (drop e line) (omega arith)
+      nothing (length line - e) (drop e line) (omega arith)
       ∙ sym (ap₂ field_at (p.last (omega arith)) one)
       ∙ w.same
 

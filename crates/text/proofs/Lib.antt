@@ -1,5 +1,4 @@
 pub mod Lists
 pub mod Pieces
 pub mod FieldLaws
-pub mod Forms
 pub mod Directions

@@ -1,14 +1,14 @@
 -- The laws of pieces: what the end of a piece tells, and a search for it. Assumes nothing.
-use Prim.Native.Nat.{ℕ, suc, ◌+◌, ◌-◌, ◌<◌, ◌≤◌}
+use Prim.Native.Nat.{ℕ, suc, ◌+◌, ◌-◌, ◌<◌, ◌≤◌, max}
 use native.Mathlib.Numerals.{add-one}
 use native.Mathlib.Omega.{arith}
 use mathlib.Core.Path.{◌≡◌, refl, sym, ap, ap₂, subst, ◌∙◌}
 use mathlib.Core.Bool.{Bool, true, false, cond}
 use mathlib.Core.List.{List, [], ◌∷◌}
-use lib.Dec.{eqb}
+use lib.Dec.{eqb, leb}
 use lib.ListN.{length, get_or, take, drop, drop_of_length-le, length-drop}
 use lib.Seq.{drop-cons, drop-drop}
-use borrow.Author.Tests.{eq-eqb, ne_eqb}
+use borrow.Author.Tests.{eq-eqb, ne_eqb, leb-true, leb-false}
 use Rattle.laws.proofs.Choice.{cond_yes, cond_no}
 use Rattle.text.specs.Pieces.{onto, split, piece_end}
 
@@ -103,3 +103,11 @@ module _ (s : List ℕ) (c i : ℕ) where
   not_found h =
       let e : first (split c (drop i s)) ≡ 0 = ap (λ (t : List ℕ). first (split c t)) (drop_of_length-le s {i = i} h) in
       omega arith
+
+-- a search from `at` that came to i and found nothing
+pub not-there : (s : List ℕ) (c at i : ℕ) → length s ≤ i → (at ≤ length s → i ≤ length s) → piece_end c s i ≡ piece_end c s at → max at (length s) ≡ piece_end c s at
+not-there s c at i h k e = go (leb at (length s)) refl
+  where
+    go : (t : Bool) → leb at (length s) ≡ t → max at (length s) ≡ piece_end c s at
+    go true l = let j : i ≤ length s = k (leb-true at (length s) l) in let n = not_found s c i h in omega arith
+    go false l = let j = leb-false at (length s) l in let n = not_found s c at (omega arith) in omega arith

@@ -1,13 +1,9 @@
 -- The fields of a line: whole numbers, floats and letters. Definitions only.
-use Rattle.std.specs.Prelude.{ℕ, ◌+◌, ◌*◌, ◌-◌, Bool, true, false, not, ◌&&◌, ◌||◌, cond, List, [], ◌∷◌, ltb, leb, eqb, get_or, length, Float}
+use Rattle.std.specs.Prelude.{ℕ, ◌+◌, ◌*◌, ◌-◌, Bool, true, false, not, ◌&&◌, ◌||◌, cond, List, [], ◌∷◌, ltb, leb, eqb, get_or, length, Float, Option, Some, None, is_some, unwrap_or}
 use Prim.Native.Char.{code}
 use Rattle.std.specs.Float.Ieee.{of_bits}
 use Rattle.std.specs.Float.{binary64}
 use Rattle.text.specs.Lists.{all_of, fold_of}
-use Rattle.text.specs.declared.fields.Whole.{Whole}
-use Rattle.text.specs.declared.fields.Whole.TheVariants.{Number, NoNumber}
-use Rattle.text.specs.declared.fields.Real.TheVariants.{Value, NoValue}
-use Rattle.text.specs.declared.fields.Real.{Real}
 
 abbrev pub is_digit : ℕ → Bool
 is_digit b = leb (code "0") b && leb b (code "9")
@@ -24,8 +20,8 @@ unfoldable pub decimal : List ℕ → ℕ
 decimal f = fold_of tens 0 f
 
 -- the whole number that a field is: decimal, no leading zero, at most 65,535
-unfoldable pub number_of : List ℕ → Whole
-number_of f = cond (written f && (all_of is_digit f && leb (decimal f) 65535)) (Number (decimal f)) NoNumber
+unfoldable pub number_of : List ℕ → Option ℕ
+number_of f = cond (written f && (all_of is_digit f && leb (decimal f) 65535)) (Some (decimal f)) None
 
 abbrev pub is_hex : ℕ → Bool
 is_hex b = is_digit b || (leb (code "a") b && leb b (code "f"))
@@ -41,28 +37,12 @@ unfoldable pub pattern : List ℕ → ℕ
 pattern f = fold_of sixteens 0 f
 
 -- the float that a field is: sixteen lowercase hexadecimal digits of its bits
-unfoldable pub float_of : List ℕ → Real
-float_of f = cond (eqb (length f) 16 && all_of is_hex f) (Value (of_bits binary64 (pattern f))) NoValue
+unfoldable pub float_of : List ℕ → Option Float
+float_of f = cond (eqb (length f) 16 && all_of is_hex f) (Some (of_bits binary64 (pattern f))) None
 
 -- the letter that a field is, or 0
 unfoldable pub letter_of : List ℕ → ℕ
 letter_of f = cond (eqb (length f) 1) (get_or f 0 0) 0
-
-abbrev pub is_whole : Whole → Bool
-is_whole (Number v) = true
-is_whole NoNumber = false
-
-abbrev pub whole_or_0 : Whole → ℕ
-whole_or_0 (Number v) = v
-whole_or_0 NoNumber = 0
-
-abbrev pub is_real : Real → Bool
-is_real (Value v) = true
-is_real NoValue = false
-
-abbrev pub real_or_0 : Real → Float
-real_or_0 (Value v) = v
-real_or_0 NoValue = of_bits binary64 0
 
 -- S solid, C cut, L lining
 abbrev pub is_role : ℕ → Bool
@@ -71,8 +51,8 @@ is_role b = eqb b (code "S") || (eqb b (code "C") || eqb b (code "L"))
 -- a field is of a kind: n a whole number, f a float, r a role's letter, a capital letter that letter
 unfoldable pub is_kind : ℕ → List ℕ → Bool
 is_kind k f =
-    cond (eqb k (code "n")) (is_whole (number_of f))
-    (cond (eqb k (code "f")) (is_real (float_of f))
+    cond (eqb k (code "n")) (is_some (number_of f))
+    (cond (eqb k (code "f")) (is_some (float_of f))
     (cond (eqb k (code "r")) (is_role (letter_of f))
     (eqb (letter_of f) k)))
 
@@ -88,10 +68,10 @@ abbrev pub field_at : List (List ℕ) → ℕ → List ℕ
 field_at fs j = get_or fs j []
 
 abbrev pub number_at : List (List ℕ) → ℕ → ℕ
-number_at fs j = whole_or_0 (number_of (field_at fs j))
+number_at fs j = unwrap_or (number_of (field_at fs j)) 0
 
 abbrev pub real_at : List (List ℕ) → ℕ → Float
-real_at fs j = real_or_0 (float_of (field_at fs j))
+real_at fs j = unwrap_or (float_of (field_at fs j)) (of_bits binary64 0)
 
 abbrev pub letter_at : List (List ℕ) → ℕ → ℕ
 letter_at fs j = letter_of (field_at fs j)

@@ -1,8 +1,8 @@
 -- The record that a line is, by its fields: the table of forms. Definitions only.
-use Rattle.std.specs.Prelude.{ℕ, ◌+◌, cond, List, [], ◌∷◌, eqb}
+use Rattle.std.specs.Prelude.{ℕ, ◌+◌, cond, List, [], ◌∷◌, eqb, unwrap_or}
 use Prim.Native.Char.{code}
 use Prim.Native.String.{String}
-use Rattle.geometry.specs.Geometry.{dir_of, dir_or}
+use Rattle.geometry.specs.Geometry.{dir_of}
 use Rattle.geometry.specs.declared.Point.{Point}
 use Rattle.geometry.specs.declared.Dir.{Dir}
 use Rattle.geometry.specs.declared.Seg.TheVariants.{Line, Arc}
@@ -25,7 +25,7 @@ module _ (fs : List (List ℕ)) where
 
   -- `Dir::new` of two floats, and the two floats themselves where that is none
   abbrev pub dir_at : ℕ → Dir
-  dir_at j = dir_or (dir_of (real_at fs j) (real_at fs (j + 1))) (record { x = real_at fs j; y = real_at fs (j + 1) })
+  dir_at j = unwrap_or (dir_of (real_at fs j) (real_at fs (j + 1))) (record { x = real_at fs j; y = real_at fs (j + 1) })
 
   abbrev pub range_at : SurfaceRef
   range_at = record { part = number_at fs 2; start = number_at fs 3; end = number_at fs 4 }

@@ -55,7 +55,7 @@ fn dir_at(line: &[u8], j: usize) -> Dir
 {
     let x = real_at(line, j);
     let y = real_at(line, j + 1);
-    geometry::dir_or(Dir::new(x, y), Dir { x, y })
+    Dir::new(x, y).unwrap_or(Dir { x, y })
 }
 
 // The range of an S line.
@@ -72,16 +72,15 @@ fn range_at(line: &[u8]) -> SurfaceRef
 fn role_of(b: u8) -> Role
     ensures { result ≡ role_of b }
 {
-    if b == b'S' {
-        return Role::Solid;
+    match b {
+        b'S' => Role::Solid,
+        b'C' => Role::Cut,
+        _ => Role::Lining,
     }
-    if b == b'C' {
-        return Role::Cut;
-    }
-    Role::Lining
 }
 
 // The forms of G and T.
+#[tactic(auto, unfolding(crate::specs::Records::first_fit))]
 fn end_record(line: &[u8]) -> Record
     ensures { result ≡ first_fit ends (fields_of line.now) }
 {
@@ -99,6 +98,7 @@ fn end_record(line: &[u8]) -> Record
 }
 
 // The forms of S, then those after it.
+#[tactic(auto, unfolding(crate::specs::Records::first_fit))]
 fn side_record(line: &[u8]) -> Record
     ensures { result ≡ first_fit sides (fields_of line.now) }
 {
@@ -112,6 +112,7 @@ fn side_record(line: &[u8]) -> Record
 }
 
 // The forms of K, then those after it.
+#[tactic(auto, unfolding(crate::specs::Records::first_fit))]
 fn pair_record(line: &[u8]) -> Record
     ensures { result ≡ first_fit pairs (fields_of line.now) }
 {
@@ -125,6 +126,7 @@ fn pair_record(line: &[u8]) -> Record
 }
 
 // The forms of L and A, then those after them.
+#[tactic(auto, unfolding(crate::specs::Records::first_fit))]
 fn outline_record(line: &[u8]) -> Record
     ensures { result ≡ first_fit outlines (fields_of line.now) }
 {
@@ -157,6 +159,7 @@ fn part_of(line: &[u8], sweep: Sweep) -> Record
 }
 
 // The forms of P, then those after it.
+#[tactic(auto, unfolding(crate::specs::Records::first_fit))]
 fn part_record(line: &[u8]) -> Record
     ensures { result ≡ first_fit parts (fields_of line.now) }
 {
@@ -199,6 +202,7 @@ fn body_of(line: &[u8], joint: Joint) -> Record
 }
 
 // The forms of J, then those after it.
+#[tactic(auto, unfolding(crate::specs::Records::first_fit))]
 fn joint_record(line: &[u8]) -> Record
     ensures { result ≡ first_fit joints (fields_of line.now) }
 {
@@ -225,6 +229,7 @@ fn joint_record(line: &[u8]) -> Record
 }
 
 // The record that a line is: the first form that it fits says.
+#[tactic(auto, unfolding(crate::specs::Records::first_fit))]
 pub fn record_of(line: &[u8]) -> Record
     ensures { result ≡ record_of (fields_of line.now) }
 {

@@ -1,4 +1,3 @@
-use Prim.Native.Nat.{◌-◌}
 use lib.ListN.{take}
 use Rattle.laws.specs.Lists.{any}
 use Rattle.bearings.specs.Bearing.{meets_row, score_of}
@@ -7,6 +6,3 @@ use Rattle.bearings.proofs.best_face.Given as goal
 
 abbrev pub invariant-loop-i : goal.invariant-loop-i
 invariant-loop-i l = Walked (λ f. any (meets_row f) (take l.n l.ends)) (score_of l.k) l.s.face l.m l.best l.top l.i
-
-abbrev pub decreases-loop-i : goal.decreases-loop-i
-decreases-loop-i l = l.m - l.i

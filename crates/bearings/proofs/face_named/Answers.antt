@@ -8,15 +8,6 @@ use Rattle.bearings.proofs.face_named.Goals as goal
 pub loop-i-init : goal.loop-i-init
 loop-i-init c = ap (face_named c.args.piece) c.faces-m.ensures.1
 
-pub offset_bounds-s-i : goal.offset_bounds-s-i
-offset_bounds-s-i c = let p = c.faces-m.ensures.0 in omega arith
-
-pub bounds-s-i : goal.bounds-s-i
-bounds-s-i c = let p = c.faces-m.ensures.0 in omega arith
-
-pub overflow_add-i : goal.overflow_add-i
-overflow_add-i c = let p = c.faces-m.ensures.0 in omega arith
-
 pub returns-then-same_piece : goal.returns-then-same_piece
 returns-then-same_piece c =
     let s = c in
@@ -24,9 +15,6 @@ returns-then-same_piece c =
     let e = c.faces-m.ensures.0 in
     sym (named-yes s.args.piece s.args.s.face _ c.loop-i.i (omega arith) no_face c.loop-i-test.true
     (sym c.same_piece.ensures ∙ c.if-same_piece.true)) ∙ c.loop-i.invariant
-
-pub loop-i-smaller : goal.loop-i-smaller
-loop-i-smaller c = omega arith
 
 pub loop-i-preserved : goal.loop-i-preserved
 loop-i-preserved c =

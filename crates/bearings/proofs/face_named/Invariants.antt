@@ -1,4 +1,3 @@
-use Prim.Native.Nat.{◌-◌}
 use mathlib.Core.Path.{◌≡◌}
 use lib.ListN.{take, drop}
 use Rattle.candidates.specs.Candidates.{faces_in}
@@ -7,6 +6,3 @@ use Rattle.bearings.proofs.face_named.Given as goal
 
 abbrev pub invariant-loop-i : goal.invariant-loop-i
 invariant-loop-i l = face_named l.piece (drop l.i (take l.m l.s.face)) ≡ face_named l.piece (faces_in l.s)
-
-abbrev pub decreases-loop-i : goal.decreases-loop-i
-decreases-loop-i l = l.m - l.i

@@ -8,15 +8,6 @@ use Rattle.bearings.proofs.first_end.Goals as goal
 pub loop-i-init : goal.loop-i-init
 loop-i-init c = ap (λ l. first_of (ends_of c.args.piece l)) c.discs-m.ensures.1
 
-pub offset_bounds-s-i : goal.offset_bounds-s-i
-offset_bounds-s-i c = let p = c.discs-m.ensures.0 in omega arith
-
-pub bounds-s-i : goal.bounds-s-i
-bounds-s-i c = let p = c.discs-m.ensures.0 in omega arith
-
-pub overflow_add-i : goal.overflow_add-i
-overflow_add-i c = let p = c.discs-m.ensures.0 in omega arith
-
 pub returns-then-same_piece : goal.returns-then-same_piece
 returns-then-same_piece c =
     let s = c in
@@ -25,9 +16,6 @@ returns-then-same_piece c =
     let same = sym c.same_piece.ensures ∙ c.if-same_piece.true in
     sym (first-yes s.args.piece s.args.s.disc _ c.loop-i.i (omega arith) no_disc c.loop-i-test.true same
     c.on_circle.ensures) ∙ c.loop-i.invariant
-
-pub loop-i-smaller : goal.loop-i-smaller
-loop-i-smaller c = omega arith
 
 pub loop-i-preserved : goal.loop-i-preserved
 loop-i-preserved c =

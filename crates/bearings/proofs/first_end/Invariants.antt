@@ -1,4 +1,3 @@
-use Prim.Native.Nat.{◌-◌}
 use mathlib.Core.Path.{◌≡◌}
 use lib.ListN.{take, drop}
 use Rattle.candidates.specs.Candidates.{discs_in}
@@ -7,6 +6,3 @@ use Rattle.bearings.proofs.first_end.Given as goal
 
 abbrev pub invariant-loop-i : goal.invariant-loop-i
 invariant-loop-i l = first_of (ends_of l.piece (drop l.i (take l.m l.s.disc))) ≡ first_of (ends_of l.piece (discs_in l.s))
-
-abbrev pub decreases-loop-i : goal.decreases-loop-i
-decreases-loop-i l = l.m - l.i

@@ -1,6 +1,6 @@
 use Rattle.bearings.proofs.is_level.Goals as goal
 
-pub returns-in-SomeSlope : goal.returns-in-SomeSlope
-returns-in-SomeSlope c =
-    let t1 = c.in-SomeSlope.is in
+pub returns-in-Some : goal.returns-in-Some
+returns-in-Some c =
+    let t1 = c.in-Some.is in
     simp (t1, c.abs.ensures)

@@ -1,36 +1,17 @@
-use native.Mathlib.Omega.{arith}
 use mathlib.Core.Path.{refl, sym, ◌∙◌}
 use mathlib.Core.List.{[]}
-use Rattle.candidates.proofs.Sides.{left-yes, left-no, left-none}
+use Rattle.bearings.proofs.Ends.{left-yes, left-no, left-none}
 use Rattle.bearings.specs.Bearing.{meets_row}
 use Rattle.bearings.proofs.meets_any.Goals as goal
 
 pub loop-i-init : goal.loop-i-init
 loop-i-init c = refl
 
-pub offset_bounds-ends-i : goal.offset_bounds-ends-i
-offset_bounds-ends-i c = let h = c.requires in omega arith
-
-pub bounds-ends-i : goal.bounds-ends-i
-bounds-ends-i c = let h = c.requires in omega arith
-
-pub overflow_add-i : goal.overflow_add-i
-overflow_add-i c = let h = c.requires in omega arith
-
-pub bounds-s-0 : goal.bounds-s-0
-bounds-s-0 c = omega arith
-
-pub bounds-s-1 : goal.bounds-s-1
-bounds-s-1 c = omega arith
-
 pub returns-then-at_end : goal.returns-then-at_end
 returns-then-at_end c =
     let s = c in
     sym (left-yes s.args.ends.now s.args.n c.loop-i.i s.requires (meets_row s.args.f) [] c.loop-i-test.true
     (sym c.at_end.ensures ∙ c.if-at_end.true)) ∙ c.loop-i.invariant
-
-pub loop-i-smaller : goal.loop-i-smaller
-loop-i-smaller c = omega arith
 
 pub loop-i-preserved : goal.loop-i-preserved
 loop-i-preserved c =

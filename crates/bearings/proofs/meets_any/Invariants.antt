@@ -1,4 +1,3 @@
-use Prim.Native.Nat.{◌-◌}
 use mathlib.Core.Path.{◌≡◌}
 use lib.ListN.{take, drop}
 use Rattle.laws.specs.Lists.{any}
@@ -7,6 +6,3 @@ use Rattle.bearings.proofs.meets_any.Given as goal
 
 abbrev pub invariant-loop-i : goal.invariant-loop-i
 invariant-loop-i l = any (meets_row l.f) (drop l.i (take l.n l.ends)) ≡ any (meets_row l.f) (take l.n l.ends)
-
-abbrev pub decreases-loop-i : goal.decreases-loop-i
-decreases-loop-i l = l.n - l.i

@@ -3,21 +3,25 @@ use mathlib.Core.Path.{sym, ◌∙◌}
 use Rattle.candidates.proofs.Sides.{discs_long, no_disc}
 use Rattle.bearings.proofs.Ends.{put-start, put_two, put-no, put-long, put-room, put-done}
 use Rattle.bearings.proofs.put_ends.Goals as goal
+use Rattle.bearings.proofs.put_ends.Goals.{then-same_piece, else-same_piece}
 
 pub loop-i-init : goal.loop-i-init
 loop-i-init c = put-start _ _ _ _
 
-pub offset_bounds-s-i : goal.offset_bounds-s-i
-offset_bounds-s-i c = let p = c.discs-m.ensures.0 in omega arith
-
-pub bounds-s-i : goal.bounds-s-i
-bounds-s-i c = let p = c.discs-m.ensures.0 in omega arith
-
-pub overflow_add-i : goal.overflow_add-i
-overflow_add-i c = let p = c.discs-m.ensures.0 in omega arith
-
 pub offset_bounds-ends-at : goal.offset_bounds-ends-at
 offset_bounds-ends-at c =
+    let p = c.discs-m.ensures.0 in
+    let f = c.loop-i.invariant.few in
+    omega arith
+
+pub overflow_add-at : goal.overflow_add-at
+overflow_add-at c =
+    let p = c.discs-m.ensures.0 in
+    let f = c.loop-i.invariant.few in
+    omega arith
+
+pub offset_bounds-ends-at-then-same_piece : goal.offset_bounds-ends-at-then-same_piece
+offset_bounds-ends-at-then-same_piece c =
     let p = c.discs-m.ensures.0 in
     let f = c.loop-i.invariant.few in
     omega arith
@@ -43,28 +47,17 @@ overflow_add-at-then-same_piece c =
     let f = c.loop-i.invariant.few in
     omega arith
 
-pub loop-i-smaller-then-same_piece : goal.loop-i-smaller-then-same_piece
-loop-i-smaller-then-same_piece c = omega arith
-
-pub loop-i-preserved-then-same_piece : goal.loop-i-preserved-then-same_piece
-loop-i-preserved-then-same_piece c =
-    let s = c in
-    let z = discs_long s.args.s _ s.well_formed.1.0 in
-    let e = c.discs-m.ensures.0 in
-    let same = sym c.same_piece.ensures ∙ c.if-same_piece.true in
-    put_two c.loop-i.invariant no_disc (omega arith)
-    c.loop-i-test.true same c.on_circle-a.ensures c.on_circle-b.ensures
-
-pub loop-i-smaller : goal.loop-i-smaller
-loop-i-smaller c = omega arith
-
 pub loop-i-preserved : goal.loop-i-preserved
 loop-i-preserved c =
-    let s = c in
-    let z = discs_long s.args.s _ s.well_formed.1.0 in
+    let z = discs_long c.args.s _ c.well_formed.1.0 in
     let e = c.discs-m.ensures.0 in
-    put-no c.loop-i.invariant no_disc (omega arith) c.loop-i-test.true
-    (sym c.same_piece.ensures ∙ c.if-same_piece.false)
+    elim c.if-same_piece.branch [
+      | then-same_piece w ↦
+          rw (w.ends-is, w.at-is)
+          (put_two c.loop-i.invariant no_disc (omega arith) c.loop-i-test.true (sym c.same_piece.ensures ∙ w.if-same_piece.true) w.on_circle-a.ensures w.on_circle-b.ensures)
+      | else-same_piece w ↦
+          rw (w.ends-is, w.at-is) (put-no c.loop-i.invariant no_disc (omega arith) c.loop-i-test.true (sym c.same_piece.ensures ∙ w.if-same_piece.false))
+    ]
 
 pub shape_of-ends : goal.shape_of-ends
 shape_of-ends c = put-long c.loop-i.invariant

@@ -1,38 +1,17 @@
 use native.Mathlib.Omega.{arith}
-use lib.ListN.{get_or}
 use Rattle.material.specs.Material.{material_of}
-use Rattle.proximities.proofs.Wrote.{ba_short, wrote_read, wrote_near, wrote_named, wrote_ba, wrote_start, wrote_more, wrote_end, wrote_one}
-use Rattle.candidates.proofs.Sides.{faces_long, no_face}
+use Rattle.proximities.proofs.Wrote.{ba_short, wrote_read, wrote_ba, wrote_start, wrote_more, wrote_end, wrote_one}
 use Rattle.candidates.proofs.disc_on_a.Goals as goal
 
-pub loop-k-init : goal.loop-k-init
-loop-k-init c = wrote_start _ _ _ _ _ _
+pub loop-f-init : goal.loop-f-init
+loop-f-init c = wrote_start _ _ _ _ _
 
-pub offset_bounds-a-k : goal.offset_bounds-a-k
-offset_bounds-a-k c = let p = c.requires.0 in omega arith
-
-pub bounds-a-k : goal.bounds-a-k
-bounds-a-k c = let p = c.requires.0 in omega arith
-
-pub overflow_add-k : goal.overflow_add-k
-overflow_add-k c = let p = c.requires.0 in omega arith
-
-pub loop-k-smaller : goal.loop-k-smaller
-loop-k-smaller c = omega arith
-
-pub loop-k-preserved : goal.loop-k-preserved
-loop-k-preserved c =
-    let s = c in
-    let z = faces_long s.args.a _ s.well_formed.1.1.1.1.0 in
-    let p = s.requires.0 in
-    let room = wrote_one c.loop-k.invariant (ba_short (material_of s.args.points.now s.args.starts.now s.args.n.solids s.args.n.all) s.args.d) c.loop-k-test.true s.requires.1 s.requires.2 in
-    wrote_more c.loop-k.invariant no_face (omega arith) c.loop-k-test.true (wrote_ba (material_of s.args.points.now s.args.starts.now s.args.n.solids s.args.n.all) s.args.d (get_or s.args.a.face c.loop-k.k no_face) c.on_face_a-found.ensures (wrote_read room c.put_candidate-to.ensures))
-
-pub shape_of-near : goal.shape_of-near
-shape_of-near c = wrote_near c.loop-k.invariant.done
-
-pub shape_of-named : goal.shape_of-named
-shape_of-named c = wrote_named c.loop-k.invariant.done
+pub loop-f-preserved : goal.loop-f-preserved
+loop-f-preserved c =
+    let s = c.args in
+    let r = c.requires in
+    let room = wrote_one c.loop-f.invariant s.a.faces (ba_short (material_of s.points.now s.starts.now s.n.solids s.n.all) s.d) (omega arith) (omega arith) (omega arith) in
+    wrote_more c.loop-f.invariant _ (omega arith) (wrote_ba (material_of s.points.now s.starts.now s.n.solids s.n.all) s.d _ c.on_face_a-found.ensures (wrote_read room c.put_candidate-to.ensures))
 
 pub returns : goal.returns
-returns c = wrote_end c.loop-k.invariant c.loop-k-test.false
+returns c = wrote_end c.loop-f.invariant (omega arith)

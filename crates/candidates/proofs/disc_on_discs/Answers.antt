@@ -1,37 +1,16 @@
 use native.Mathlib.Omega.{arith}
-use lib.ListN.{get_or}
-use Rattle.proximities.proofs.Wrote.{discs_short, wrote_read, wrote_near, wrote_named, wrote_discs, wrote_start, wrote_more, wrote_end, wrote_one}
-use Rattle.candidates.proofs.Sides.{discs_long, no_disc}
+use Rattle.proximities.proofs.Wrote.{discs_short, wrote_read, wrote_discs, wrote_start, wrote_more, wrote_end, wrote_one}
 use Rattle.candidates.proofs.disc_on_discs.Goals as goal
 
-pub loop-k-init : goal.loop-k-init
-loop-k-init c = wrote_start _ _ _ _ _ _
+pub loop-e-init : goal.loop-e-init
+loop-e-init c = wrote_start _ _ _ _ _
 
-pub offset_bounds-b-k : goal.offset_bounds-b-k
-offset_bounds-b-k c = let p = c.requires.0 in omega arith
-
-pub bounds-b-k : goal.bounds-b-k
-bounds-b-k c = let p = c.requires.0 in omega arith
-
-pub overflow_add-k : goal.overflow_add-k
-overflow_add-k c = let p = c.requires.0 in omega arith
-
-pub loop-k-smaller : goal.loop-k-smaller
-loop-k-smaller c = omega arith
-
-pub loop-k-preserved : goal.loop-k-preserved
-loop-k-preserved c =
-    let s = c in
-    let z = discs_long s.args.b _ s.well_formed.1.1.1.1.0 in
-    let p = s.requires.0 in
-    let room = wrote_one c.loop-k.invariant (discs_short s.args.d) c.loop-k-test.true s.requires.1 s.requires.2 in
-    wrote_more c.loop-k.invariant no_disc (omega arith) c.loop-k-test.true (wrote_discs s.args.d (get_or s.args.b.disc c.loop-k.k no_disc) c.disc_on_disc-found.ensures (wrote_read room c.put_candidate-to.ensures))
-
-pub shape_of-near : goal.shape_of-near
-shape_of-near c = wrote_near c.loop-k.invariant.done
-
-pub shape_of-named : goal.shape_of-named
-shape_of-named c = wrote_named c.loop-k.invariant.done
+pub loop-e-preserved : goal.loop-e-preserved
+loop-e-preserved c =
+    let s = c.args in
+    let r = c.requires in
+    let room = wrote_one c.loop-e.invariant s.b.discs (discs_short s.d) (omega arith) (omega arith) (omega arith) in
+    wrote_more c.loop-e.invariant _ (omega arith) (wrote_discs s.d _ c.disc_on_disc-found.ensures (wrote_read room c.put_candidate-to.ensures))
 
 pub returns : goal.returns
-returns c = wrote_end c.loop-k.invariant c.loop-k-test.false
+returns c = wrote_end c.loop-e.invariant (omega arith)

@@ -45,4 +45,4 @@ returns-in-CenterBearing c =
     let s = c in
     let f = c.pair_features_at-f.result in
     let a = c.place_side-a.ensures in
-    wrote_same (center_read s.args.ps s.args.o s.args.q s.args.p f s.requires.0 c.pair_features_at-f.ensures c.place_side-a.result a.2 c.in-CenterBearing.is (c.world.ensures ∙ ap (λ x. world_of x f.b.center.point) c.placement_at-place.ensures)) c.center_candidates.ensures
+    wrote_same (center_read s.args.ps s.args.o s.args.q s.args.p f s.requires.0 c.pair_features_at-f.ensures c.place_side-a.result a.2 c.in-CenterBearing.is (c.world-c.ensures ∙ ap (λ x. world_of x f.b.center.point) c.placement_at.ensures)) c.center_candidates.ensures

@@ -1,53 +1,16 @@
 use native.Mathlib.Omega.{arith}
 use Prim.Native.Nat.{◌+◌, ◌≤◌}
-use mathlib.Core.Path.{◌≡◌, refl, sym, ap, ◌∙◌}
+use mathlib.Core.Path.{sym, ap, ◌∙◌}
 use mathlib.Core.List.{◌∷◌, map}
-use lib.ListN.{length, take, drop, get_or}
-use Rattle.laws.proofs.Fill.{fill_from, fill_put, fill_end}
+use lib.ListN.{length, drop, get_or}
+use Rattle.laws.proofs.Fill.{fill_put}
 use Rattle.candidates.specs.Candidates.{place_disc, discs_in}
-use Rattle.candidates.proofs.Sides.{discs_long, no_disc, map_next, map-left}
+use Rattle.candidates.proofs.Sides.{no_disc, map_next}
 use Rattle.candidates.proofs.place_discs.Goals as goal
-
-pub loop-i-init : goal.loop-i-init
-loop-i-init c =
-    let s = c in
-    (omega arith, fill_from (discs_long s.args.s _ s.well_formed.0) refl)
-
-pub offset_bounds-s-i : goal.offset_bounds-s-i
-offset_bounds-s-i c = let p = c.requires.1 in omega arith
-
-pub bounds-s-i : goal.bounds-s-i
-bounds-s-i c = let p = c.requires.1 in omega arith
-
-pub offset_bounds-disc-i : goal.offset_bounds-disc-i
-offset_bounds-disc-i c = let p = c.requires.1 in omega arith
-
-pub bounds-disc-i : goal.bounds-disc-i
-bounds-disc-i c = let p = c.requires.1 in let w = c.loop-i.invariant.1.long in omega arith
-
-pub overflow_add-i : goal.overflow_add-i
-overflow_add-i c = let p = c.requires.1 in omega arith
-
-pub loop-i-smaller : goal.loop-i-smaller
-loop-i-smaller c = omega arith
 
 pub loop-i-preserved : goal.loop-i-preserved
 loop-i-preserved c =
-    let s = c in
-    let z = discs_long s.args.s _ s.well_formed.0 in
-    let p = s.requires.1 in
-    let n : s.args.s.discs ≤ length s.args.s.disc = omega arith in
-    let e = map_next s.args.s.disc s.args.s.discs c.loop-i.i n (place_disc s.args.place) no_disc c.loop-i-test.true in
-    (omega arith, fill_put (omega arith) (e ∙ ap (λ x. record { piece = (get_or s.args.s.disc c.loop-i.i no_disc).piece; disc = x } ∷ map (place_disc s.args.place) (drop (c.loop-i.i + 1) (discs_in s.args.s))) (sym c.world_disc.ensures)) c.loop-i.invariant.1)
-
-pub returns : goal.returns
-returns c =
-    let s = c in
-    let z = discs_long s.args.s _ s.well_formed.0 in
-    let p = s.requires.1 in
-    let n : s.args.s.discs ≤ length s.args.s.disc = omega arith in
-    let t = c.loop-i-test.false in
-    let f = c.loop-i.invariant.0 in
-    let e : c.loop-i.i ≡ s.args.s.discs = omega arith in
-    let h = ap (λ k. take k c.loop-i.disc) (sym e) ∙ fill_end (map-left s.args.s.disc s.args.s.discs c.loop-i.i n (place_disc s.args.place) t) c.loop-i.invariant.1 in
-    (refl, refl, refl, h)
+    let s = c.args.s in
+    let n : s.discs ≤ length s.disc = omega arith in
+    let e = map_next s.disc s.discs c.loop-i.i n (place_disc c.args.place) no_disc (omega arith) in
+    fill_put (omega arith) (e ∙ ap (λ x. record { piece = (get_or s.disc c.loop-i.i no_disc).piece; disc = x } ∷ map (place_disc c.args.place) (drop (c.loop-i.i + 1) (discs_in s))) (sym c.world_disc.ensures)) c.loop-i.invariant

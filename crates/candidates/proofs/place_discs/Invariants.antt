@@ -1,4 +1,3 @@
-use Prim.Native.Nat.{◌-◌, ◌≤◌}
 use mathlib.Core.List.{map}
 use lib.ListN.{drop}
 use Rattle.laws.specs.Fill.{Filling}
@@ -6,7 +5,4 @@ use Rattle.candidates.specs.Candidates.{place_disc, discs_in}
 use Rattle.candidates.proofs.place_discs.Given as goal
 
 abbrev pub invariant-loop-i : goal.invariant-loop-i
-invariant-loop-i l = (l.i ≤ l.s.discs) × Filling 28 (map (place_disc l.place) (discs_in l.s)) l.disc l.i (map (place_disc l.place) (drop l.i (discs_in l.s)))
-
-abbrev pub decreases-loop-i : goal.decreases-loop-i
-decreases-loop-i l = l.s.discs - l.i
+invariant-loop-i l = Filling 28 (map (place_disc l.place) (discs_in l.s)) l.disc l.i (map (place_disc l.place) (drop l.i (discs_in l.s)))

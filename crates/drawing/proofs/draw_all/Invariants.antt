@@ -1,4 +1,3 @@
-use Prim.Native.Nat.{◌-◌}
 use mathlib.Core.Path.{◌≡◌}
 use Rattle.mechanism.specs.Description.{start_of_part}
 use Rattle.mechanism.specs.Segments.{outlines_in}
@@ -7,6 +6,3 @@ use Rattle.drawing.proofs.draw_all.Given as goal
 
 abbrev pub invariant-loop-i : goal.invariant-loop-i
 invariant-loop-i l = (l.first ≡ start_of_part l.ps l.i) × Draws l.ps (outlines_in l.segs) l.q l.c l.w l.initial.points l.initial.starts l.initial.at l.initial.k l.points l.starts l.at l.k l.i
-
-abbrev pub decreases-loop-i : goal.decreases-loop-i
-decreases-loop-i l = l.ps.count - l.i

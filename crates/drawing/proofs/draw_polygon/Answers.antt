@@ -8,21 +8,15 @@ loop-i-init c = places_start 8 drawn_points _ _ _ _
 
 pub draw_seg-to-requires : goal.draw_seg-to-requires
 draw_seg-to-requires c =
-    let e = c.silhouette_count-n.ensures.0 in
+    let e = c.silhouette_count-i-end.ensures.0 in
     let r = c.loop-i.invariant.room in
     let w = c.loop-i.invariant.rest.long in
     omega arith
 
-pub overflow_add-i : goal.overflow_add-i
-overflow_add-i c = let e = c.silhouette_count-n.ensures.0 in omega arith
-
-pub loop-i-smaller : goal.loop-i-smaller
-loop-i-smaller c = let e = c.silhouette_count-n.ensures.0 in omega arith
-
 pub loop-i-preserved : goal.loop-i-preserved
 loop-i-preserved c =
     let s = c in
-    let e = c.silhouette_count-n.ensures.0 in
+    let e = c.silhouette_count-i-end.ensures.0 in
     let k = rows-count s.args.segs.now s.args.first s.args.p s.requires.0 s.requires.1 in
     places_more c.loop-i.invariant (omega arith) c.silhouette_seg.ensures drawn-short c.draw_seg-to.ensures
 
@@ -32,6 +26,6 @@ shape_of-points c = c.loop-i.invariant.rest.long
 pub returns : goal.returns
 returns c =
     let s = c in
-    let e = c.silhouette_count-n.ensures.0 in
+    let e = c.silhouette_count-i-end.ensures.0 in
     let k = rows-count s.args.segs.now s.args.first s.args.p s.requires.0 s.requires.1 in
     places_end c.loop-i.invariant (omega arith)

@@ -1,4 +1,4 @@
-use Prim.Native.Nat.{◌+◌, ◌-◌, ◌≤◌}
+use Prim.Native.Nat.{◌+◌}
 use mathlib.Core.List.{map}
 use lib.ListN.{take, drop}
 use Rattle.laws.specs.Loops.{Writing}
@@ -7,7 +7,4 @@ use Rattle.drawing.specs.Drawing.{row_of}
 use Rattle.drawing.proofs.draw_seg.Given as goal
 
 abbrev pub invariant-loop-k : goal.invariant-loop-k
-invariant-loop-k l = (l.k ≤ l.d.count) × Writing l.initial.points l.at (map row_of (map (world_of l.place) (take l.d.count l.d.points))) l.points (l.at + l.k) (map row_of (map (world_of l.place) (drop l.k (take l.d.count l.d.points))))
-
-abbrev pub decreases-loop-k : goal.decreases-loop-k
-decreases-loop-k l = l.d.count - l.k
+invariant-loop-k l = Writing l.initial.points l.at (map row_of (map (world_of l.place) (take l.d.count l.d.points))) l.points (l.at + l.k) (map row_of (map (world_of l.place) (drop l.k (take l.d.count l.d.points))))

@@ -6,7 +6,4 @@ use Rattle.drawing.specs.Drawing.{is_sampled, has_own}
 use Rattle.drawing.proofs.has_own.Given as goal
 
 abbrev pub invariant-loop-k : goal.invariant-loop-k
-invariant-loop-k l = any (λ r. is_sampled (part_at l.ps r.part)) (list_in (range_at l.u) (l.n - l.k) l.k) ≡ has_own l.ps l.u
-
-abbrev pub decreases-loop-k : goal.decreases-loop-k
-decreases-loop-k l = l.n - l.k
+invariant-loop-k l = any (λ r. is_sampled (part_at l.ps r.part)) (list_in (range_at l.u) (l.k-end - l.k) l.k) ≡ has_own l.ps l.u

@@ -7,7 +7,4 @@ use Rattle.drawing.specs.Drawing.{is_own}
 use Rattle.drawing.proofs.is_own.Given as goal
 
 abbrev pub invariant-loop-k : goal.invariant-loop-k
-invariant-loop-k l = any (λ r. eqb r.part l.i) (list_in (range_at l.u) (l.n - l.k) l.k) ≡ is_own l.u l.i
-
-abbrev pub decreases-loop-k : goal.decreases-loop-k
-decreases-loop-k l = l.n - l.k
+invariant-loop-k l = any (λ r. eqb r.part l.i) (list_in (range_at l.u) (l.k-end - l.k) l.k) ≡ is_own l.u l.i

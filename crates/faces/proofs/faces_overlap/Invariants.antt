@@ -1,4 +1,3 @@
-use Prim.Native.Nat.{◌≤◌, ◌-◌}
 use mathlib.Core.Path.{◌≡◌}
 use mathlib.Core.Bool.{false}
 use lib.Ieee.{is_nan}
@@ -10,7 +9,5 @@ use Rattle.faces.proofs.faces_overlap.Given as goal
 
 abbrev pub invariant-loop-i : goal.invariant-loop-i
 invariant-loop-i l =
-    (l.i ≤ l.m) × (is_nan l.deepest ≡ false) × (foldl (step_of l.pa l.pb (faces_in l.b)) l.deepest (left l.m l.i l.a.face) ≡ foldl (step_of l.pa l.pb (faces_in l.b)) zero_f (left l.m 0 l.a.face))
-
-abbrev pub decreases-loop-i : goal.decreases-loop-i
-decreases-loop-i l = l.m - l.i
+    let step = step_of l.pa l.pb (faces_in l.b) in
+    record { number : is_nan l.deepest ≡ false; held : foldl step l.deepest (left l.i-end l.i l.a.face) ≡ foldl step zero_f (left l.i-end 0 l.a.face) }

@@ -11,28 +11,22 @@ use Rattle.material.proofs.any_inside.Goals as goal
 pub loop-i-init : goal.loop-i-init
 loop-i-init c = refl
 
-pub overflow_add-i : goal.overflow_add-i
-overflow_add-i c = omega arith
-
 pub returns-then-inside : goal.returns-then-inside
 returns-then-inside c =
     let l = c.loop-i in
     let s = c.args in
     let w : c.part.result.now ≡ between s.points.now (get_or s.starts.now l.i 0) (get_or s.starts.now (l.i + 1) 0) =
-    c.part.ensures ∙ ap₂ (between s.points.now) c.start_at-a.ensures c.start_at-e.ensures in
+    c.part.ensures ∙ ap₂ (between s.points.now) c.start_at.ensures c.start_at-in-loop-i.ensures in
     let e : c.inside.result ≡ inside_of s.p (poly_at s.points.now s.starts.now l.i) =
     c.inside.ensures ∙ ap (λ (x : List (List Float)). inside_of s.p (points_of x)) w in
     sym (any-yes (inside_of s.p) (poly_at s.points.now s.starts.now) s.to l.i (omega arith) (sym e ∙ c.if-inside.true)) ∙ l.invariant
-
-pub loop-i-smaller : goal.loop-i-smaller
-loop-i-smaller c = omega arith
 
 pub loop-i-preserved : goal.loop-i-preserved
 loop-i-preserved c =
     let l = c.loop-i in
     let s = c.args in
     let w : c.part.result.now ≡ between s.points.now (get_or s.starts.now l.i 0) (get_or s.starts.now (l.i + 1) 0) =
-    c.part.ensures ∙ ap₂ (between s.points.now) c.start_at-a.ensures c.start_at-e.ensures in
+    c.part.ensures ∙ ap₂ (between s.points.now) c.start_at.ensures c.start_at-in-loop-i.ensures in
     let e : c.inside.result ≡ inside_of s.p (poly_at s.points.now s.starts.now l.i) =
     c.inside.ensures ∙ ap (λ (x : List (List Float)). inside_of s.p (points_of x)) w in
     sym (any-no (inside_of s.p) (poly_at s.points.now s.starts.now) s.to l.i (omega arith) (sym e ∙ c.if-inside.false)) ∙ l.invariant

@@ -6,6 +6,3 @@ use Rattle.material.proofs.any_inside.Given as goal
 
 abbrev pub invariant-loop-i : goal.invariant-loop-i
 invariant-loop-i l = any (inside_of l.p) (list_in (poly_at l.points l.starts) (l.to - l.i) l.i) ≡ any (inside_of l.p) (list_in (poly_at l.points l.starts) (l.to - l.from) l.from)
-
-abbrev pub decreases-loop-i : goal.decreases-loop-i
-decreases-loop-i l = l.to - l.i

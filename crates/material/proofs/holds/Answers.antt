@@ -12,11 +12,11 @@ returns-then-any_inside c =
     let s = c.args in
     let e : c.any_inside.result ≡ any (inside_of s.p) (list_in (poly_at s.points.now s.starts.now) s.solids 0) =
     c.any_inside.ensures ∙ ap (λ (k : ℕ). any (inside_of s.p) (list_in (poly_at s.points.now s.starts.now) k 0)) (sub-zero s.solids) in
-    ap not c.any_inside-c.ensures ∙ sym (and_yes _ (sym e ∙ c.if-any_inside.true))
+    ap not c.any_inside-then-any_inside.ensures ∙ sym (and_yes _ (sym e ∙ c.if-any_inside.true))
 
 pub returns-else-any_inside : goal.returns-else-any_inside
 returns-else-any_inside c =
     let s = c.args in
     let e : c.any_inside.result ≡ any (inside_of s.p) (list_in (poly_at s.points.now s.starts.now) s.solids 0) =
     c.any_inside.ensures ∙ ap (λ (k : ℕ). any (inside_of s.p) (list_in (poly_at s.points.now s.starts.now) k 0)) (sub-zero s.solids) in
-    sym (and_no _ (sym e ∙ c.if-any_inside.false))
+    c.if-any_inside.false ∙ sym (and_no _ (sym e ∙ c.if-any_inside.false))

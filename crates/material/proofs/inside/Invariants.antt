@@ -1,4 +1,4 @@
-use Prim.Native.Nat.{◌<◌, ◌-◌}
+use Prim.Native.Nat.{◌-◌}
 use mathlib.Core.Path.{◌≡◌}
 use mathlib.Core.Bool.{false}
 use lib.ListN.{length}
@@ -8,7 +8,4 @@ use Rattle.material.proofs.Parts.{row_edge}
 use Rattle.material.proofs.inside.Given as goal
 
 abbrev pub invariant-loop-i : goal.invariant-loop-i
-invariant-loop-i l = (l.i < length l.poly) × (foldl (turned_by l.p) l.odd (list_in (row_edge l.poly) (length l.poly - l.i) l.i) ≡ foldl (turned_by l.p) false (list_in (row_edge l.poly) (length l.poly) 0))
-
-abbrev pub decreases-loop-i : goal.decreases-loop-i
-decreases-loop-i l = length l.poly - l.i
+invariant-loop-i l = foldl (turned_by l.p) l.odd (list_in (row_edge l.poly) (length l.poly - l.i) l.i) ≡ foldl (turned_by l.p) false (list_in (row_edge l.poly) (length l.poly) 0)

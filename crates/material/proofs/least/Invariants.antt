@@ -10,6 +10,3 @@ use Rattle.material.proofs.least.Given as goal
 abbrev pub invariant-loop-i : goal.invariant-loop-i
 invariant-loop-i l =
     (is_nan l.best ≡ false) × Comes (of_polygon l.p) l.enough (polygon_keeps l.p l.enough) l.best (list_in (poly_at l.points l.starts) (l.to - l.i) l.i) (foldl (of_polygon l.p) l.from (list_in (poly_at l.points l.starts) (l.to - l.first) l.first))
-
-abbrev pub decreases-loop-i : goal.decreases-loop-i
-decreases-loop-i l = l.to - l.i

@@ -39,68 +39,34 @@ module _ (poly : List (List Float)) (p : Point) (from best : Float) (i : ℕ) (h
       (comes-early (of_edge p) enough (edge-keeps p enough) (list_in (row_edge poly) (length poly - (i + 1)) (i + 1)) (inl next-inv) (holds t))
 
 pub loop-i-init : goal.loop-i-init
-loop-i-init c = (omega arith, c.requires, rw sub-zero)
-
-pub overflow_add-i : goal.overflow_add-i
-overflow_add-i c = omega arith
-
-pub offset_bounds-poly-k : goal.offset_bounds-poly-k
-offset_bounds-poly-k c = omega arith
-
-pub bounds-poly-k : goal.bounds-poly-k
-bounds-poly-k c = omega arith
-
-pub wrap-j-requires : goal.wrap-j-requires
-wrap-j-requires c = (omega arith, omega arith)
-
-pub offset_bounds-poly-j : goal.offset_bounds-poly-j
-offset_bounds-poly-j c = omega arith
-
-pub bounds-poly-j : goal.bounds-poly-j
-bounds-poly-j c = omega arith
-
-pub bounds-u-0 : goal.bounds-u-0
-bounds-u-0 c = omega arith
-
-pub bounds-u-1 : goal.bounds-u-1
-bounds-u-1 c = omega arith
-
-pub bounds-v-0 : goal.bounds-v-0
-bounds-v-0 c = omega arith
-
-pub bounds-v-1 : goal.bounds-v-1
-bounds-v-1 c = omega arith
+loop-i-init c = (c.requires, rw sub-zero)
 
 pub returns-then-best-enough : goal.returns-then-best-enough
 returns-then-best-enough c =
     let l = c.loop-i in
     let s = c.args in
-    let w = c.wrap-j.ensures.0 in
+    let w = c.wrap.ensures.0 in
     let q = c.square-q.ensures in
     let n = c.choose-best.ensures in (
-      early s.poly.now s.p s.from l.best l.i (omega arith) l.invariant.1 l.invariant.2 w q n s.enough c.if-best-enough.true,
-      next-number s.poly.now s.p s.from l.best l.i (omega arith) l.invariant.1 l.invariant.2 w q n,
+      early s.poly.now s.p s.from l.best l.i (omega arith) l.invariant.0 l.invariant.1 w q n s.enough c.if-best-enough.true,
+      next-number s.poly.now s.p s.from l.best l.i (omega arith) l.invariant.0 l.invariant.1 w q n,
     )
-
-pub loop-i-smaller : goal.loop-i-smaller
-loop-i-smaller c = omega arith
 
 pub loop-i-preserved : goal.loop-i-preserved
 loop-i-preserved c =
     let l = c.loop-i in
     let s = c.args in
-    let w = c.wrap-j.ensures.0 in
+    let w = c.wrap.ensures.0 in
     let q = c.square-q.ensures in
     let n = c.choose-best.ensures in (
-      omega arith,
-      next-number s.poly.now s.p s.from l.best l.i (omega arith) l.invariant.1 l.invariant.2 w q n,
-      next-inv s.poly.now s.p s.from l.best l.i (omega arith) l.invariant.1 l.invariant.2 w q n,
+      next-number s.poly.now s.p s.from l.best l.i (omega arith) l.invariant.0 l.invariant.1 w q n,
+      next-inv s.poly.now s.p s.from l.best l.i (omega arith) l.invariant.0 l.invariant.1 w q n,
     )
 
 pub returns : goal.returns
 returns c =
     let l = c.loop-i in
     let s = c.args in (
-      inl (sym (fold_done (of_edge s.p) (row_edge s.poly.now) l.best (length s.poly.now) l.i (omega arith)) ∙ l.invariant.2 ∙ ap (least_in s.p s.from) (sym (edges-of-rows s.poly.now))),
-      l.invariant.1,
+      inl (sym (fold_done (of_edge s.p) (row_edge s.poly.now) l.best (length s.poly.now) l.i (omega arith)) ∙ l.invariant.1 ∙ ap (least_in s.p s.from) (sym (edges-of-rows s.poly.now))),
+      l.invariant.0,
     )

@@ -1,4 +1,4 @@
-use Prim.Native.Nat.{◌-◌, ◌≤◌}
+use Prim.Native.Nat.{◌-◌}
 use mathlib.Core.Path.{◌≡◌}
 use mathlib.Core.Bool.{false}
 use lib.ListN.{length}
@@ -9,7 +9,4 @@ use Rattle.material.proofs.least_of.Given as goal
 
 abbrev pub invariant-loop-i : goal.invariant-loop-i
 invariant-loop-i l =
-    (l.i ≤ length l.poly) × (is_nan l.best ≡ false) × (least_in l.p l.best (list_in (row_edge l.poly) (length l.poly - l.i) l.i) ≡ least_in l.p l.from (list_in (row_edge l.poly) (length l.poly) 0))
-
-abbrev pub decreases-loop-i : goal.decreases-loop-i
-decreases-loop-i l = length l.poly - l.i
+    (is_nan l.best ≡ false) × (least_in l.p l.best (list_in (row_edge l.poly) (length l.poly - l.i) l.i) ≡ least_in l.p l.from (list_in (row_edge l.poly) (length l.poly) 0))

@@ -7,37 +7,19 @@ use Rattle.material.proofs.Outside.{range-starts}
 use native.Mathlib.Omega.{arith}
 use Rattle.material.proofs.y_range.Goals as goal
 
-pub loop-i-init : goal.loop-i-init
-loop-i-init c = (omega arith, range-starts _ _ _ c.infinity-lo.ensures c.infinity-hi.ensures)
+pub loop-v-init : goal.loop-v-init
+loop-v-init c = range-starts _ _ _ c.infinity-lo.ensures c.infinity-hi.ensures
 
-pub offset_bounds-points-i : goal.offset_bounds-points-i
-offset_bounds-points-i c = omega arith
-
-pub bounds-points-i : goal.bounds-points-i
-bounds-points-i c = omega arith
-
-pub overflow_add-i : goal.overflow_add-i
-overflow_add-i c = omega arith
-
-pub bounds-v-1 : goal.bounds-v-1
-bounds-v-1 c = omega arith
-
-pub bounds-v-1-in-loop-i : goal.bounds-v-1-in-loop-i
-bounds-v-1-in-loop-i c = omega arith
-
-pub loop-i-smaller : goal.loop-i-smaller
-loop-i-smaller c = omega arith
-
-pub loop-i-preserved : goal.loop-i-preserved
-loop-i-preserved c =
-    let l = c.loop-i in
+pub loop-v-preserved : goal.loop-v-preserved
+loop-v-preserved c =
+    let l = c.loop-v in
     let s = c.args in
-    let e : range_with (record { lo = l.lo; hi = l.hi }) (row_point s.points.now l.i) ≡ record { lo = c.low-lo.result; hi = c.high-hi.result } =
+    let e : range_with (record { lo = l.lo; hi = l.hi }) (row_point s.points.now l.v-index) ≡ record { lo = c.low-lo.result; hi = c.high-hi.result } =
     rw (c.low-lo.ensures, c.high-hi.ensures) in
-    (omega arith, fold_on range_with (row_point s.points.now) (length s.points.now) l.i (omega arith) e ∙ l.invariant.1)
+    fold_on range_with (row_point s.points.now) (length s.points.now) l.v-index (omega arith) e ∙ l.invariant
 
 pub returns : goal.returns
 returns c =
-    let l = c.loop-i in
+    let l = c.loop-v in
     let s = c.args in
-    sym (fold_done range_with (row_point s.points.now) (record { lo = l.lo; hi = l.hi }) (length s.points.now) l.i (omega arith)) ∙ l.invariant.1
+    sym (fold_done range_with (row_point s.points.now) (record { lo = l.lo; hi = l.hi }) (length s.points.now) l.v-index (omega arith)) ∙ l.invariant

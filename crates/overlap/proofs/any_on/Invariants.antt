@@ -10,6 +10,3 @@ use Rattle.overlap.proofs.any_on.Given as goal
 abbrev pub invariant-loop-j : goal.invariant-loop-j
 invariant-loop-j l =
     any_in (λ i. owner_at l.w i && eqb (part_at l.ps i).body l.body) (l.ps.count - l.j) l.j ≡ any_in (λ i. owner_at l.w i && eqb (part_at l.ps i).body l.body) l.ps.count 0
-
-abbrev pub decreases-loop-j : goal.decreases-loop-j
-decreases-loop-j l = l.ps.count - l.j

@@ -1,4 +1,4 @@
-use Prim.Native.Nat.{◌-◌, ◌≤◌}
+use Prim.Native.Nat.{◌-◌}
 use mathlib.Core.Path.{◌≡◌}
 use lib.ListN.{length}
 use Rattle.laws.specs.Lists.{list_in}
@@ -6,9 +6,7 @@ use Rattle.material.specs.Material.{material_of, deepest_square}
 use Rattle.material.proofs.Parts.{row_point}
 use Rattle.overlap.proofs.deepest_in.Given as goal
 
-abbrev pub invariant-loop-i : goal.invariant-loop-i
-invariant-loop-i l =
-    (l.i ≤ length l.samples) × (deepest_square (material_of l.points l.starts l.n.solids l.n.all) l.d (list_in (row_point l.samples) (length l.samples - l.i) l.i) ≡ deepest_square (material_of l.points l.starts l.n.solids l.n.all) l.from (list_in (row_point l.samples) (length l.samples) 0))
-
-abbrev pub decreases-loop-i : goal.decreases-loop-i
-decreases-loop-i l = length l.samples - l.i
+abbrev pub invariant-loop-v : goal.invariant-loop-v
+invariant-loop-v l =
+    let deepest = deepest_square (material_of l.points l.starts l.n.solids l.n.all) in
+    deepest l.d (list_in (row_point l.samples) (length l.samples - l.v-index) l.v-index) ≡ deepest l.from (list_in (row_point l.samples) (length l.samples) 0)

@@ -10,6 +10,3 @@ use Rattle.overlap.proofs.deepest_pair.Given as goal
 abbrev pub invariant-loop-i : goal.invariant-loop-i
 invariant-loop-i l =
     fold_in (λ e j. max_of e (pair_overlap_at l.ps l.o l.q (pair_at l.pairs j))) l.d (l.pairs.count - l.i) l.i ≡ fold_in (λ e j. max_of e (pair_overlap_at l.ps l.o l.q (pair_at l.pairs j))) zero_f l.pairs.count 0
-
-abbrev pub decreases-loop-i : goal.decreases-loop-i
-decreases-loop-i l = l.pairs.count - l.i

@@ -1,4 +1,4 @@
-use Prim.Native.Nat.{◌-◌, ◌≤◌}
+use Prim.Native.Nat.{◌-◌}
 use mathlib.Core.Bool.{◌&&◌}
 use Rattle.laws.specs.Fill.{Filling}
 use Rattle.laws.specs.Lists.{list_in}
@@ -9,7 +9,4 @@ use Rattle.overlap.proofs.list_owners.Given as goal
 
 abbrev pub invariant-loop-i : goal.invariant-loop-i
 invariant-loop-i l =
-    (l.i ≤ 32) × Filling 32 (list_in (λ j. is_in l.l j && is_sampled (part_at l.ps j)) 32 0) l.is l.i (list_in (λ j. is_in l.l j && is_sampled (part_at l.ps j)) (32 - l.i) l.i)
-
-abbrev pub decreases-loop-i : goal.decreases-loop-i
-decreases-loop-i l = 32 - l.i
+    Filling 32 (list_in (λ j. is_in l.l j && is_sampled (part_at l.ps j)) 32 0) l.is l.i (list_in (λ j. is_in l.l j && is_sampled (part_at l.ps j)) (32 - l.i) l.i)

@@ -1,11 +1,14 @@
+use Rattle.std.proofs.lemmas.Result.{err_from_is_err_and}
 use Rattle.overlap.proofs.Answers.{all-refused, pairs-few, all-answered}
 use Rattle.overlap.proofs.overlap.Goals as goal
 
 pub deepest_pair-requires : goal.deepest_pair-requires
-deepest_pair-requires c = let s = c.args in pairs-few s.m s.q c.fits.ensures c.call_checked-c.ensures c.in-Accepted.is
+deepest_pair-requires c = pairs-few c.args.m c.args.q c.fits.ensures c.call_checked.ensures c.in_ok-call_checked.was
 
-pub returns-in-Refused : goal.returns-in-Refused
-returns-in-Refused c = let s = c.args in all-refused s.m s.q c.fits.ensures c.call_checked-c.ensures c.in-Refused.is
+pub returns-in_err-call_checked : goal.returns-in_err-call_checked
+returns-in_err-call_checked c =
+    let p = err_from_is_err_and c.from_residual.result c.from_residual.ensures.1 in
+    rw (p.1, p.2) (all-refused c.args.m c.args.q c.fits.ensures c.call_checked.ensures c.in_err-call_checked.was)
 
-pub returns-in-Accepted : goal.returns-in-Accepted
-returns-in-Accepted c = let s = c.args in all-answered s.m s.q c.fits.ensures c.call_checked-c.ensures c.in-Accepted.is c.deepest_pair.ensures
+pub returns : goal.returns
+returns c = all-answered c.args.m c.args.q c.fits.ensures c.call_checked.ensures c.in_ok-call_checked.was c.deepest_pair.ensures

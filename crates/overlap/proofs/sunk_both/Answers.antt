@@ -1,5 +1,3 @@
-use native.Mathlib.Omega.{arith}
-use mathlib.Core.Path.{◌∙◌}
 use Rattle.mechanism.specs.Segments.{outlines_in}
 use Rattle.drawing.specs.Drawing.{chosen_material}
 use Rattle.overlap.specs.Overlap.{owner_at}
@@ -18,16 +16,6 @@ slice_bounds-sunk-end-3 c = let s = c in mouths-within s.args.ps s.args.segs.now
 
 pub slice_bounds-sunk-end-4 : goal.slice_bounds-sunk-end-4
 slice_bounds-sunk-end-4 c = let s = c in mouths-counted s.args.ps s.args.segs.now s.requires.0 s.requires.1 s.args.mouths.now s.requires.3 c.draw_mouths-n.ensures
-
-pub sunk-requires-2 : goal.sunk-requires-2
-sunk-requires-2 c =
-    let s = c in
-    let h = s.requires.2 in
-    let k = c.sunk.ensures.1 in
-    (s.requires.0, s.requires.1, omega (arith, h, k))
-
-pub shape_of-points : goal.shape_of-points
-shape_of-points c = c.sunk-2.ensures.1 ∙ c.sunk.ensures.1
 
 pub shape_of-mouths : goal.shape_of-mouths
 shape_of-mouths c = let s = c in mouths-long s.args.ps s.args.segs.now s.requires.0 s.requires.1 s.args.mouths.now s.requires.3 c.draw_mouths-n.ensures

@@ -1,4 +1,3 @@
-use Prim.Native.Nat.{◌-◌}
 use mathlib.Core.Path.{◌≡◌}
 use Rattle.mechanism.specs.Description.{start_of_part}
 use Rattle.mechanism.specs.Segments.{outlines_in}
@@ -11,7 +10,10 @@ use Rattle.overlap.proofs.sunk_in.Given as goal
 
 abbrev pub invariant-loop-i : goal.invariant-loop-i
 invariant-loop-i l =
-    (l.first ≡ start_of_part l.ps l.i) × PlainNumber l.d × (sunk_from (material_of l.points l.starts l.n.solids l.n.all) (part_samples l.ps (outlines_in l.segs) l.q (mouths_in l.mouths)) (owner_at l.w) l.ps.count l.d l.i ≡ sunk_by l.ps (outlines_in l.segs) l.q (owner_at l.w) (mouths_in l.mouths) (material_of l.points l.starts l.n.solids l.n.all))
-
-abbrev pub decreases-loop-i : goal.decreases-loop-i
-decreases-loop-i l = l.ps.count - l.i
+    let m = material_of l.points l.starts l.n.solids l.n.all in
+    let samples = part_samples l.ps (outlines_in l.segs) l.q (mouths_in l.mouths) in
+    record {
+      row : l.first ≡ start_of_part l.ps l.i;
+      plain : PlainNumber l.d;
+      deep : sunk_from m samples (owner_at l.w) l.ps.count l.d l.i ≡ sunk_by l.ps (outlines_in l.segs) l.q (owner_at l.w) (mouths_in l.mouths) m;
+    }

@@ -15,35 +15,21 @@ use Rattle.overlap.proofs.Lent.{points_lent, written-long}
 use Rattle.overlap.proofs.sunk_part.Goals as goal
 
 pub loop-k-init : goal.loop-k-init
-loop-k-init c = (omega arith, refl, refl)
-
-pub overflow_add-k : goal.overflow_add-k
-overflow_add-k c = let e = c.silhouette_count-count.ensures.1 in omega arith
-
-pub slice_bounds-samples-end : goal.slice_bounds-samples-end
-slice_bounds-samples-end c =
-    let m = c.seg_samples-m.ensures in
-    let w = m.2 in
-    let a = c in
-    let k = written-long c.loop-k.samples (map row_of (map (world_of a.args.place) (samples_of (mouths_in a.args.mouths.now) c.silhouette_seg-s.result))) m.1 c.loop-k.invariant.1 in
-    omega (arith, w, k)
+loop-k-init c = record { long = refl; deep = refl }
 
 pub slice_bounds-deepest_in-end : goal.slice_bounds-deepest_in-end
 slice_bounds-deepest_in-end c =
     let m = c.seg_samples-m.ensures in
     let w = m.2 in
     let a = c in
-    let k = written-long c.loop-k.samples (map row_of (map (world_of a.args.place) (samples_of (mouths_in a.args.mouths.now) c.silhouette_seg-s.result))) m.1 c.loop-k.invariant.1 in
+    let k = written-long c.loop-k.samples (map row_of (map (world_of a.args.place) (samples_of (mouths_in a.args.mouths.now) c.silhouette_seg-s.result))) m.1 c.loop-k.invariant.long in
     sym (length-take-le _ _ (omega (arith, w, k)))
-
-pub loop-k-smaller : goal.loop-k-smaller
-loop-k-smaller c = let e = c.silhouette_count-count.ensures.0 in omega arith
 
 pub loop-k-preserved : goal.loop-k-preserved
 loop-k-preserved c =
     let a = c in
     let s = a.args in
-    let e = c.silhouette_count-count.ensures.0 in
+    let e = c.silhouette_count-k-end.ensures.0 in
     let t = c.loop-k-test.true in
     let made = c.seg_samples-m.ensures in
     let k = rows-count s.segs.now s.first s.p a.requires.0 a.requires.1 in
@@ -52,19 +38,21 @@ loop-k-preserved c =
     let n = length-map (samples_of (mouths_in s.mouths.now) seg) (world_of s.place) in
     let w = made.2 in
     let z = made.0 in
-    let x = points_lent xs c.loop-k.samples (made.0 ∙ sym n) made.1 (let y = c.loop-k.invariant.1 in omega (arith, n, w, y, z)) in
-    let m = material_of s.points.now s.starts.now s.n.solids s.n.all in (
-      omega arith,
-      written-long c.loop-k.samples (map row_of xs) made.1 c.loop-k.invariant.1,
-      segs_more m (world_of s.place) (samples_of (mouths_in s.mouths.now)) _ c.loop-k.d c.loop-k.k (omega (arith, e, t, k)) c.silhouette_seg-s.ensures (c.deepest_in-d.ensures ∙ ap (deepest_square m c.loop-k.d) x) ∙ c.loop-k.invariant.2,
-    )
+    let x = points_lent xs c.loop-k.samples (made.0 ∙ sym n) made.1 (let y = c.loop-k.invariant.long in omega (arith, n, w, y, z)) in
+    let m = material_of s.points.now s.starts.now s.n.solids s.n.all in
+    record {
+      long = written-long c.loop-k.samples (map row_of xs) made.1 c.loop-k.invariant.long;
+      deep = segs_more m (world_of s.place) (samples_of (mouths_in s.mouths.now)) _ c.loop-k.d c.loop-k.k (omega (arith, e, t, k))
+          c.silhouette_seg-s.ensures (c.deepest_in-d.ensures ∙ ap (deepest_square m c.loop-k.d) x) ∙ c.loop-k.invariant.deep;
+    }
 
 pub returns : goal.returns
 returns c =
     let a = c in
     let s = a.args in
-    let e = c.silhouette_count-count.ensures.0 in
+    let e = c.silhouette_count-k-end.ensures.0 in
     let t = c.loop-k-test.false in
     let k = rows-count s.segs.now s.first s.p a.requires.0 a.requires.1 in
     let m = material_of s.points.now s.starts.now s.n.solids s.n.all in
-    sym (segs_end m (world_of s.place) (samples_of (mouths_in s.mouths.now)) (silhouette_from (outlines_in s.segs.now) s.first s.p) c.loop-k.d c.loop-k.k (omega (arith, e, t, k))) ∙ c.loop-k.invariant.2
+    sym (segs_end m (world_of s.place) (samples_of (mouths_in s.mouths.now)) (silhouette_from (outlines_in s.segs.now) s.first s.p) c.loop-k.d c.loop-k.k (omega (arith, e, t, k)))
+    ∙ c.loop-k.invariant.deep

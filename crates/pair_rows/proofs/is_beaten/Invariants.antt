@@ -8,6 +8,3 @@ use Rattle.pair_rows.proofs.is_beaten.Given as goal
 
 abbrev pub invariant-loop-j : goal.invariant-loop-j
 invariant-loop-j l = any_in (hides (gap_in l.near) (decides_in l.named) (alike_in l.named) l.i) (l.n - l.j) l.j ≡ any_in (hides (gap_in l.near) (decides_in l.named) (alike_in l.named) l.i) l.n 0
-
-abbrev pub decreases-loop-j : goal.decreases-loop-j
-decreases-loop-j l = l.n - l.j

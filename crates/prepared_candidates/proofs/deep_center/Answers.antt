@@ -1,5 +1,5 @@
 use native.Mathlib.Omega.{arith}
-use Prim.Native.Nat.{◌<◌, ◌≤◌}
+use Prim.Native.Nat.{◌<◌}
 use mathlib.Core.Path.{ap}
 use Rattle.laws.specs.Lists.{flat}
 use Rattle.material.specs.Material.{Material}
@@ -7,24 +7,8 @@ use Rattle.strips.specs.Strips.{faces_from}
 use Rattle.drawing.specs.Prepared.{all_drawn}
 use Rattle.proximities.specs.Proximities.{read_center}
 use Rattle.proximities.proofs.Wrote.{wrote_same}
-use Rattle.prepared_candidates.proofs.Lent.{drawn-or, none_or}
+use Rattle.prepared_candidates.proofs.Lent.{none_or}
 use Rattle.prepared_candidates.proofs.deep_center.Goals as goal
-
-pub returns-then-n-le512 : goal.returns-then-n-le512
-returns-then-n-le512 c =
-    let s = c in
-    let e = c.all_drawn-n.ensures.0 in
-    let t = c.if-n-le512.true in
-    let h : all_drawn s.args.parts.now ≤ 6144 = omega (arith, e, t) in
-    wrote_same (ap (λ (m : Material). flat (read_center m s.args.piece s.args.c) (faces_from s.args.faces.now 0 s.args.fnames.now s.args.a.face s.args.a.faces)) (drawn-or s.args.drawn.now s.args.parts.now s.args.q s.args.ca h)) c.deep_center_by.ensures
-
-pub returns-then-n-le6144 : goal.returns-then-n-le6144
-returns-then-n-le6144 c =
-    let s = c in
-    let e = c.all_drawn-n.ensures.0 in
-    let t = c.if-n-le6144.true in
-    let h : all_drawn s.args.parts.now ≤ 6144 = omega (arith, e, t) in
-    wrote_same (ap (λ (m : Material). flat (read_center m s.args.piece s.args.c) (faces_from s.args.faces.now 0 s.args.fnames.now s.args.a.face s.args.a.faces)) (drawn-or s.args.drawn.now s.args.parts.now s.args.q s.args.ca h)) c.deep_center_by-then-n-le6144.ensures
 
 pub returns : goal.returns
 returns c =

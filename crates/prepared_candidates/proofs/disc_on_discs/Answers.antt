@@ -1,36 +1,19 @@
 use native.Mathlib.Omega.{arith}
 use Rattle.strips.specs.Strips.{disc_at}
-use Rattle.proximities.proofs.Wrote.{discs_short, wrote_discs, wrote_read, wrote_near, wrote_named}
+use Rattle.proximities.proofs.Wrote.{discs_short, wrote_discs, wrote_read}
 use Rattle.prepared_candidates.proofs.Listed.{listed_start, listed_more, listed-end, listed-one}
 use Rattle.prepared_candidates.proofs.Placed.{disc_named}
 use Rattle.prepared_candidates.proofs.disc_on_discs.Goals as goal
 
 pub loop-k-init : goal.loop-k-init
-loop-k-init c = listed_start _ _ _ _ _ _
-
-pub overflow_add-from : goal.overflow_add-from
-overflow_add-from c =
-    let s = c in
-    let p = s.requires.2 in let q = s.requires.3 in omega arith
-
-pub overflow_add-k : goal.overflow_add-k
-overflow_add-k c = let q = c.requires.3 in omega arith
-
-pub loop-k-smaller : goal.loop-k-smaller
-loop-k-smaller c = omega arith
+loop-k-init c = listed_start _ _ _ _ _
 
 pub loop-k-preserved : goal.loop-k-preserved
 loop-k-preserved c =
     let s = c in
-    let room = listed-one c.loop-k.invariant (discs_short (record { piece = s.args.piece; disc = s.args.disc })) c.loop-k-test.true (let p = s.requires.0 in omega arith) (let p = s.requires.1 in omega arith) in
-    listed_more c.loop-k.invariant c.loop-k-test.true (disc_named s.args.discs.now s.args.names.now s.args.from c.loop-k.k c.piece_at-other.ensures c.disc_at.ensures)
+    let room = listed-one c.loop-k.invariant s.args.n (discs_short (record { piece = s.args.piece; disc = s.args.disc })) (omega arith) (let p = s.requires.0 in omega arith) (let p = s.requires.1 in omega arith) in
+    listed_more c.loop-k.invariant (disc_named s.args.discs.now s.args.names.now s.args.from c.loop-k.k c.piece_at-other.ensures c.disc_at.ensures)
     (wrote_discs (record { piece = s.args.piece; disc = s.args.disc }) (record { piece = c.piece_at-other.result; disc = c.disc_at.result }) c.disc_on_disc-found.ensures (wrote_read room c.put_candidate-to.ensures))
 
-pub shape_of-near : goal.shape_of-near
-shape_of-near c = wrote_near c.loop-k.invariant.done
-
-pub shape_of-named : goal.shape_of-named
-shape_of-named c = wrote_named c.loop-k.invariant.done
-
 pub returns : goal.returns
-returns c = listed-end c.loop-k.invariant c.loop-k-test.false
+returns c = listed-end c.loop-k.invariant (omega arith)

@@ -3,41 +3,24 @@ use Prim.Native.Nat.{◌+◌}
 use Rattle.material.specs.Material.{material_of}
 use Rattle.strips.specs.Strips.{face_at, piece_at}
 use Rattle.proximities.specs.Proximities.{read_ba}
-use Rattle.proximities.proofs.Wrote.{ba_short, wrote_near, wrote_named}
+use Rattle.proximities.proofs.Wrote.{ba_short}
 use Rattle.prepared_candidates.proofs.Listed.{listed-few, listed_start, listed_more, listed-end, listed-room}
 use Rattle.prepared_candidates.proofs.Placed.{disc_named}
 use Rattle.prepared_candidates.proofs.discs_on_a.Goals as goal
 
 pub loop-i-init : goal.loop-i-init
-loop-i-init c = listed_start _ _ _ _ _ _
-
-pub overflow_add-b : goal.overflow_add-b
-overflow_add-b c =
-    let s = c in
-    let p = s.requires.0.disc_small in let q = s.requires.0.discs_few in omega arith
+loop-i-init c = listed_start _ _ _ _ _
 
 pub disc_on_a-to-requires : goal.disc_on_a-to-requires
 disc_on_a-to-requires c =
     let s = c in
-    let r = listed-room c.loop-i.invariant s.args.a.faces (λ d. listed-few (read_ba (material_of s.args.points.now s.args.starts.now s.args.polygons.solids s.args.polygons.all) d) (ba_short (material_of s.args.points.now s.args.starts.now s.args.polygons.solids s.args.polygons.all) d) (λ i. record { piece = piece_at s.args.fnames.now (s.args.a.face + i); face = face_at s.args.faces.now (0 + i) }) s.args.a.faces) c.loop-i-test.true s.requires.2 s.requires.3 in
+    let r = listed-room c.loop-i.invariant s.args.a.faces s.args.b.discs (λ d. listed-few (read_ba (material_of s.args.points.now s.args.starts.now s.args.polygons.solids s.args.polygons.all) d) (ba_short (material_of s.args.points.now s.args.starts.now s.args.polygons.solids s.args.polygons.all) d) (λ i. record { piece = piece_at s.args.fnames.now (s.args.a.face + i); face = face_at s.args.faces.now (0 + i) }) s.args.a.faces) (omega arith) s.requires.2 s.requires.3 in
     (r.0, r.1, s.requires.1.face_small, s.requires.1.faces_few)
-
-pub overflow_add-i : goal.overflow_add-i
-overflow_add-i c = let q = c.requires.0.discs_few in omega arith
-
-pub loop-i-smaller : goal.loop-i-smaller
-loop-i-smaller c = omega arith
 
 pub loop-i-preserved : goal.loop-i-preserved
 loop-i-preserved c =
     let s = c in
-    listed_more c.loop-i.invariant c.loop-i-test.true (disc_named s.args.discs.now s.args.dnames.now s.args.b.disc c.loop-i.i c.piece_at-piece.ensures c.disc_at-disc.ensures) c.disc_on_a-to.ensures
-
-pub shape_of-near : goal.shape_of-near
-shape_of-near c = wrote_near c.loop-i.invariant.done
-
-pub shape_of-named : goal.shape_of-named
-shape_of-named c = wrote_named c.loop-i.invariant.done
+    listed_more c.loop-i.invariant (disc_named s.args.discs.now s.args.dnames.now s.args.b.disc c.loop-i.i c.piece_at-piece.ensures c.disc_at-disc.ensures) c.disc_on_a-to.ensures
 
 pub returns : goal.returns
-returns c = listed-end c.loop-i.invariant c.loop-i-test.false
+returns c = listed-end c.loop-i.invariant (omega arith)

@@ -1,4 +1,4 @@
-use Prim.Native.Nat.{◌+◌, ◌-◌}
+use Prim.Native.Nat.{◌+◌}
 use Rattle.laws.specs.Lists.{flat}
 use Rattle.material.specs.Material.{material_of}
 use Rattle.strips.specs.Strips.{disc_at, piece_at, faces_from}
@@ -7,7 +7,4 @@ use Rattle.prepared_candidates.proofs.Listed.{Listed}
 use Rattle.prepared_candidates.proofs.discs_on_a.Given as goal
 
 abbrev pub invariant-loop-i : goal.invariant-loop-i
-invariant-loop-i l = Listed (λ d. flat (read_ba (material_of l.points l.starts l.polygons.solids l.polygons.all) d) (faces_from l.faces 0 l.fnames l.a.face l.a.faces)) (λ k. record { piece = piece_at l.dnames (l.b.disc + k); disc = disc_at l.discs (0 + k) }) l.b.discs l.at l.to l.i l.initial.near l.near l.initial.named l.named
-
-abbrev pub decreases-loop-i : goal.decreases-loop-i
-decreases-loop-i l = l.b.discs - l.i
+invariant-loop-i l = Listed (λ d. flat (read_ba (material_of l.points l.starts l.polygons.solids l.polygons.all) d) (faces_from l.faces 0 l.fnames l.a.face l.a.faces)) (λ k. record { piece = piece_at l.dnames (l.b.disc + k); disc = disc_at l.discs (0 + k) }) l.at l.to l.i l.initial.near l.near l.initial.named l.named

@@ -8,31 +8,25 @@ use Rattle.prepared_rows.proofs.bounds_in.Goals as goal
 
 pub loop-i-init : goal.loop-i-init
 unfolding fold_in
-loop-i-init c = (omega arith, refl, omega arith)
+loop-i-init c = (refl, omega arith)
 
 pub overflow_add-sum : goal.overflow_add-sum
 overflow_add-sum c =
     let v = c.loop-i.invariant in
     let e = c.pair_bound_in-sum.ensures in
     let p = c.requires in
-    omega (arith, v.0, v.2, e.1, p)
-
-pub overflow_add-i : goal.overflow_add-i
-overflow_add-i c = omega arith
-
-pub loop-i-smaller : goal.loop-i-smaller
-loop-i-smaller c = omega arith
+    omega (arith, v.1, e.1, p)
 
 pub loop-i-preserved : goal.loop-i-preserved
 loop-i-preserved c =
     let v = c.loop-i.invariant in
     let e = c.pair_bound_in-sum.ensures in
     let s = sum_more (bound_in c.args.sides.now) c.loop-i.i in
-    (omega arith, omega (arith, v.1, e.0, s), omega (arith, v.2, e.1))
+    (omega (arith, v.0, e.0, s), omega (arith, v.1, e.1))
 
 pub returns : goal.returns
 returns c =
     let v = c.loop-i.invariant in
     let a = c.args in
-    let n : c.loop-i.i ≡ a.n = omega (arith, v.0, c.loop-i-test.false) in
-    (v.1 ∙ ap (λ k. sum_in (bound_in a.sides.now) k 0) n, omega (arith, v.0, v.2, c.requires))
+    let n : c.loop-i.i ≡ a.n = omega arith in
+    (v.0 ∙ ap (λ k. sum_in (bound_in a.sides.now) k 0) n, omega (arith, v.1, c.requires))

@@ -1,11 +1,8 @@
-use Prim.Native.Nat.{◌*◌, ◌-◌, ◌≤◌}
+use Prim.Native.Nat.{◌*◌, ◌≤◌}
 use mathlib.Core.Path.{◌≡◌}
 use Rattle.mechanism.specs.Description.{sum_in}
 use Rattle.prepared_candidates.specs.Prepared.{bound_in}
 use Rattle.prepared_rows.proofs.bounds_in.Given as goal
 
 abbrev pub invariant-loop-i : goal.invariant-loop-i
-invariant-loop-i l = (l.i ≤ l.n) × (l.sum ≡ sum_in (bound_in l.sides) l.i 0) × (l.sum ≤ l.i * 1456)
-
-abbrev pub decreases-loop-i : goal.decreases-loop-i
-decreases-loop-i l = l.n - l.i
+invariant-loop-i l = (l.sum ≡ sum_in (bound_in l.sides) l.i 0) × (l.sum ≤ l.i * 1456)

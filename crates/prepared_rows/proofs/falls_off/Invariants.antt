@@ -1,11 +1,8 @@
-use Prim.Native.Nat.{◌-◌, ◌≤◌}
+use Prim.Native.Nat.{◌-◌}
 use mathlib.Core.Path.{◌≡◌}
 use Rattle.laws.specs.Loops.{any_in}
 use Rattle.prepared_rows.specs.Prepared.{falls_off}
 use Rattle.prepared_rows.proofs.falls_off.Given as goal
 
 abbrev pub invariant-loop-i : goal.invariant-loop-i
-invariant-loop-i l = (l.i ≤ l.n) × (any_in (falls_off l.bodies l.sides) (l.n - l.i) l.i ≡ any_in (falls_off l.bodies l.sides) l.n 0)
-
-abbrev pub decreases-loop-i : goal.decreases-loop-i
-decreases-loop-i l = l.n - l.i
+invariant-loop-i l = any_in (falls_off l.bodies l.sides) (l.n - l.i) l.i ≡ any_in (falls_off l.bodies l.sides) l.n 0

@@ -1,5 +1,5 @@
 use native.Mathlib.Omega.{arith}
-use Prim.Native.Nat.{◌+◌}
+use Prim.Native.Nat.{◌+◌, ◌<◌}
 use Rattle.laws.proofs.Sums.{sum_more, sum_mono}
 use Rattle.prepared_candidates.specs.Prepared.{bound_in}
 use Rattle.prepared_rows.specs.Prepared.{bounds_in}
@@ -13,35 +13,17 @@ loop-pair-init c = pairs_start _ _ _ _ _ _ _ _ _ _
 pub put_pair-at-requires : goal.put_pair-at-requires
 put_pair-at-requires c =
     let s = c in
-    let h = c.loop-pair-test.true in
+    let h : c.loop-pair.pair < s.args.n = omega arith in
     let k = sum_more (bound_in s.args.sides.now) c.loop-pair.pair in
     let m = sum_mono (bound_in s.args.sides.now) (c.loop-pair.pair + 1) s.args.n (omega (arith, h)) in
     let u = c.loop-pair.invariant.upto in
     let p = s.requires.2 in
     (s.requires.0, omega (arith, k, m, u, p), pairs-room c.loop-pair.invariant (bounds_in s.args.sides.now s.args.n) _ s.requires.3 (omega (arith, k, m)) (omega arith))
 
-pub overflow_add-pair : goal.overflow_add-pair
-overflow_add-pair c = let f = c.requires.1 in omega (arith, f)
-
-pub loop-pair-smaller : goal.loop-pair-smaller
-loop-pair-smaller c = omega arith
-
 pub loop-pair-preserved : goal.loop-pair-preserved
 loop-pair-preserved c =
     let a = c.args in
-    pairs-more c.loop-pair.invariant c.loop-pair-test.true (rows_few a.faces.now a.fnames.now a.discs.now a.dnames.now a.sides.now a.centers.now a.choices.now a.drawn.now a.parts.now a.q c.loop-pair.pair a.bodies a.margin) (grads-long a.faces.now a.fnames.now a.discs.now a.dnames.now a.sides.now a.centers.now a.choices.now a.drawn.now a.parts.now a.q c.loop-pair.pair a.bodies a.margin) (slips-long a.faces.now a.fnames.now a.discs.now a.dnames.now a.sides.now a.centers.now a.choices.now a.drawn.now a.parts.now a.q c.loop-pair.pair a.bodies a.margin) c.put_pair-at.ensures
-
-pub shape_of-places : goal.shape_of-places
-shape_of-places c = c.loop-pair.invariant.placed.long
-
-pub shape_of-values : goal.shape_of-values
-shape_of-values c = c.loop-pair.invariant.valued.long
-
-pub shape_of-grad : goal.shape_of-grad
-shape_of-grad c = c.loop-pair.invariant.grads.long
-
-pub shape_of-slip : goal.shape_of-slip
-shape_of-slip c = c.loop-pair.invariant.slips.long
+    pairs-more c.loop-pair.invariant (omega arith) (rows_few a.faces.now a.fnames.now a.discs.now a.dnames.now a.sides.now a.centers.now a.choices.now a.drawn.now a.parts.now a.q c.loop-pair.pair a.bodies a.margin) (grads-long a.faces.now a.fnames.now a.discs.now a.dnames.now a.sides.now a.centers.now a.choices.now a.drawn.now a.parts.now a.q c.loop-pair.pair a.bodies a.margin) (slips-long a.faces.now a.fnames.now a.discs.now a.dnames.now a.sides.now a.centers.now a.choices.now a.drawn.now a.parts.now a.q c.loop-pair.pair a.bodies a.margin) c.put_pair-at.ensures
 
 pub returns : goal.returns
-returns c = pairs_end c.loop-pair.invariant c.loop-pair-test.false
+returns c = pairs_end c.loop-pair.invariant (omega arith)

@@ -6,15 +6,15 @@ use Rattle.shown_rows.proofs.OfPair.{there-few, there-put}
 use Rattle.record_rows.proofs.First.{room-less}
 use Rattle.record_rows.proofs.put_pair.Goals as goal
 
-pub offset_bounds-pairs-i : goal.offset_bounds-pairs-i
-offset_bounds-pairs-i c =
+pub offset_bounds-m-i : goal.offset_bounds-m-i
+offset_bounds-m-i c =
     let s = c in
     let f = (accepted-few s.args.m s.requires.0).pairs.count in
     let h = s.requires.1 in
     omega arith
 
-pub bounds-pairs-i : goal.bounds-pairs-i
-bounds-pairs-i c =
+pub bounds-m-i : goal.bounds-m-i
+bounds-m-i c =
     let s = c in
     let f = (accepted-few s.args.m s.requires.0).pairs.count in
     let h = s.requires.1 in

@@ -1,4 +1,3 @@
-use Prim.Native.Nat.{◌-◌, ◌≤◌}
 use mathlib.Core.Path.{◌≡◌}
 use Rattle.record_rows.proofs.First.{ats, outs, grads, slips}
 use Rattle.record_rows.proofs.put_pairs.Given as goal
@@ -6,11 +5,7 @@ use Rattle.record_rows.proofs.put_pairs.Given as goal
 -- the first i pairs are read
 abbrev pub invariant-loop-i : goal.invariant-loop-i
 invariant-loop-i l =
-    (l.i ≤ l.n)
-    × (l.at ≡ ats l.m l.q l.margin l.i)
+    (l.at ≡ ats l.m l.q l.margin l.i)
     × (l.out ≡ outs l.m l.q l.margin l.initial.out l.initial.grad l.initial.slip l.i)
     × (l.grad ≡ grads l.m l.q l.margin l.initial.out l.initial.grad l.initial.slip l.i)
     × (l.slip ≡ slips l.m l.q l.margin l.initial.out l.initial.grad l.initial.slip l.i)
-
-abbrev pub decreases-loop-i : goal.decreases-loop-i
-decreases-loop-i l = l.n - l.i

@@ -23,4 +23,4 @@ loop-k-preserved c =
     let l = c.loop-k in
     let z = records_long s.p _ c.well_formed.1.1.0 in
     let h : l.k < length s.p.row = omega (arith, z) in
-    (omega arith, ap (λ (o : List Row). set o (s.at + l.k) (get_or s.p.row l.k _)) l.invariant.1 ∙ put-more s.out.now s.p.row s.at l.k _ h)
+    ap (λ (o : List Row). set o (s.at + l.k) (get_or s.p.row l.k _)) l.invariant ∙ put-more s.out.now s.p.row s.at l.k _ h

@@ -1,11 +1,8 @@
-use Prim.Native.Nat.{◌-◌, ◌≤◌}
+use Prim.Native.Nat.{◌-◌}
 use Rattle.laws.specs.Lists.{list_in}
 use Rattle.laws.specs.Fill.{Filling}
 use Rattle.record_rows.specs.Steps.{row_at, records_in}
 use Rattle.record_rows.proofs.records_from.Given as goal
 
 abbrev pub invariant-loop-i : goal.invariant-loop-i
-invariant-loop-i l = (l.i ≤ l.n) × Filling 784 (records_in l.places l.values l.n) l.row l.i (list_in (row_at l.places l.values) (l.n - l.i) l.i)
-
-abbrev pub decreases-loop-i : goal.decreases-loop-i
-decreases-loop-i l = l.n - l.i
+invariant-loop-i l = Filling 784 (records_in l.places l.values l.n) l.row l.i (list_in (row_at l.places l.values) (l.n - l.i) l.i)

@@ -1,4 +1,4 @@
-use Prim.Native.Nat.{◌-◌, ◌≤◌}
+use Rattle.std.proofs.Common.{◌-◌, ◌≤◌}
 use Rattle.room_calls.proofs.fewest.Given as goal
 
 abbrev pub invariant-loop-low : goal.invariant-loop-low

@@ -1,28 +1,14 @@
-use mathlib.Core.Path.{ap}
-use Rattle.row_exports.proofs.Few.{few, all_there, rows_are, bearing-is}
+use mathlib.Core.Path.{ap, ◌∙◌}
+use Rattle.std.proofs.Common.{Option, Result, None}
+use Rattle.std.specs.Result.{result_unwrap_or}
+use Rattle.bodies.specs.declared.Problem.{Problem}
+use Rattle.mechanism.specs.declared.bearing.Bearing.{Bearing}
+use Rattle.row_exports.specs.Numbers.{bearing_numbers, bearing_by}
 use Rattle.row_exports.proofs.sewqirun_bearing_record.Goals as goal
 
-pub records_by_value-h-requires : goal.records_by_value-h-requires
-records_by_value-h-requires c =
-    let s = c in
-    all_there s.args.places.now s.args.values.now _ _ c.least.ensures c.least-n.ensures
-
-pub bearing_by-a-requires : goal.bearing_by-a-requires
-bearing_by-a-requires c = few c.least.result c.least-n.result c.least-n.ensures
-
 pub returns : goal.returns
+unfolding bearing_by
 returns c =
-    let a = c in
-    let l = a in
-    let u = l in
-    let o = u in
-    let s = o in
-    let h =
-    rows_are s.args.places.now s.args.values.now l.least.result a.least-n.result l.least.ensures a.least-n.ensures
-    a.records_by_value-h.result.row a.records_by_value-h.ensures
-    in
-    let e =
-    bearing-is s.args.text.now s.args.places.now s.args.values.now s.args.pair s.args.x
-    o.read-s.ensures u.posed-p.ensures h c.bearing_by-a.ensures c.bearing_numbers-k.ensures
-    in
+    let e = c.bearing_numbers-k.ensures
+    ∙ ap (λ (b : Option Bearing). bearing_numbers b c.args.x) (c.unwrap_or-found.ensures ∙ ap (λ (r : Result (Option Bearing) Problem). result_unwrap_or r None) c.bearing_found.ensures) in
     (ap (λ k. k.how) e, ap (λ k. k.value) e)

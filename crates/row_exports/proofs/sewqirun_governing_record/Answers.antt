@@ -1,17 +1,19 @@
 use mathlib.Core.Path.{ap, ◌∙◌}
+use mathlib.Core.List.{List}
+use Prim.Native.Nat.{ℕ}
+use Rattle.std.proofs.Common.{Option, unwrap_or}
+use Rattle.mechanism.specs.declared.rows.Row.{Row}
 use Rattle.row_records.specs.Records.{governing_record}
-use Rattle.row_exports.specs.Numbers.{number_or}
 use Rattle.row_exports.proofs.Few.{few, all_there, rows_are}
 use Rattle.row_exports.proofs.sewqirun_governing_record.Goals as goal
 
 pub records_by_value-h-requires : goal.records_by_value-h-requires
-records_by_value-h-requires c = let s = c in all_there s.args.places.now s.args.values.now _ _ c.least.ensures c.least-n.ensures
+records_by_value-h-requires c = all_there c.args.places.now c.args.values.now _ _ c.least.ensures c.least-n.ensures
 
-pub governing_of-found-requires : goal.governing_of-found-requires
-governing_of-found-requires c = few c.least.result c.least-n.result c.least-n.ensures
+pub governing_of-requires : goal.governing_of-requires
+governing_of-requires c = few c.least.result c.least-n.result c.least-n.ensures
 
 pub returns : goal.returns
 returns c =
-    let s = c in
-    let h = rows_are s.args.places.now s.args.values.now c.least.result c.least-n.result c.least.ensures c.least-n.ensures c.records_by_value-h.result.row c.records_by_value-h.ensures in
-    c.number_or.ensures ∙ ap (λ a. number_or a 64) (c.governing_of-found.ensures ∙ ap (λ l. governing_record l s.args.pair) h)
+    let h = rows_are c.args.places.now c.args.values.now c.least.result c.least-n.result c.least.ensures c.least-n.ensures c.records_by_value-h.result.row c.records_by_value-h.ensures in
+    c.unwrap_or.ensures ∙ ap (λ (a : Option ℕ). unwrap_or a 64) (c.governing_of.ensures ∙ ap (λ (l : List Row). governing_record l c.args.pair) h)

@@ -1,9 +1,6 @@
-use Prim.Native.Nat.{◌-◌, ◌≤◌}
-use Rattle.row_records.proofs.Laws.{Settled}
+use mathlib.Core.Path.{◌≡◌}
+use Rattle.row_records.specs.Private.{found_of}
 use Rattle.row_records.proofs.best_of.Given as goal
 
-abbrev pub invariant-loop-i : goal.invariant-loop-i
-invariant-loop-i l = (l.i ≤ l.n) × Settled l.rows l.pair l.i l.w
-
-abbrev pub decreases-loop-i : goal.decreases-loop-i
-decreases-loop-i l = l.n - l.i
+abbrev pub invariant-loop-at : goal.invariant-loop-at
+invariant-loop-at l = l.best ≡ found_of l.rows l.pair l.at

@@ -1,7 +1,9 @@
-use mathlib.Core.Path.{ap, ◌∙◌}
-use Rattle.row_records.specs.Private.{row_gap}
+use Rattle.std.proofs.Common.{sym, ◌∙◌}
 use Rattle.row_records.proofs.Laws.{gap_is}
 use Rattle.row_records.proofs.gap.Goals as goal
 
+pub returns-in_err-best_of : goal.returns-in_err-best_of
+returns-in_err-best_of c = let e = gap_is c.args.rows.now c.args.pair (sym c.in_err-best_of.was ∙ c.best_of.ensures) in cc
+
 pub returns : goal.returns
-returns c = c.row_gap.ensures ∙ ap row_gap c.best_of-best.ensures ∙ gap_is c.args.rows.now c.args.pair
+returns c = gap_is c.args.rows.now c.args.pair (sym c.in_ok-best_of.was ∙ c.best_of.ensures)

@@ -10,38 +10,31 @@ use Rattle.shown_rows.proofs.Bound.{bound-small, bounds-part, bounds-all}
 use Rattle.shown_rows.proofs.bound_of.Goals as goal
 
 pub loop-i-init : goal.loop-i-init
-loop-i-init c = (omega arith, sym (sum-none _ _))
+loop-i-init c = sym (sum-none _ _)
 
-pub offset_bounds-pairs-i : goal.offset_bounds-pairs-i
-offset_bounds-pairs-i c = let f = (accepted-few c.args.m c.requires).pairs.count in omega arith
+pub offset_bounds-m-i : goal.offset_bounds-m-i
+offset_bounds-m-i c = let f = (accepted-few c.args.m c.requires).pairs.count in omega arith
 
-pub bounds-pairs-i : goal.bounds-pairs-i
-bounds-pairs-i c = let f = (accepted-few c.args.m c.requires).pairs.count in omega arith
+pub bounds-m-i : goal.bounds-m-i
+bounds-m-i c = let f = (accepted-few c.args.m c.requires).pairs.count in omega arith
 
 pub pair_bound-sum-requires : goal.pair_bound-sum-requires
-pair_bound-sum-requires c = accepted-pair-drawn c.args.m c.requires c.loop-i.i c.loop-i-test.true
+pair_bound-sum-requires c = accepted-pair-drawn c.args.m c.requires c.loop-i.i (omega arith)
 
 pub overflow_add-sum : goal.overflow_add-sum
 overflow_add-sum c =
-    let b = bounds-part c.args.m c.loop-i.i c.loop-i-test.true in
+    let b = bounds-part c.args.m c.loop-i.i (omega arith) in
     let s = bound-small c.args.m c.requires in
-    let e = c.loop-i.invariant.1 in
+    let e = c.loop-i.invariant in
     let f = c.pair_bound-sum.ensures in
     omega arith
 
-pub overflow_add-i : goal.overflow_add-i
-overflow_add-i c = let f = (accepted-few c.args.m c.requires).pairs.count in omega arith
-
-pub loop-i-smaller : goal.loop-i-smaller
-loop-i-smaller c = omega arith
-
 pub loop-i-preserved : goal.loop-i-preserved
-loop-i-preserved c = (omega arith, ap₂ (λ x y. x + y) c.loop-i.invariant.1 c.pair_bound-sum.ensures ∙ sym (sum_more (pair_bound c.args.m) c.loop-i.i))
+loop-i-preserved c = ap₂ (λ x y. x + y) c.loop-i.invariant c.pair_bound-sum.ensures ∙ sym (sum_more (pair_bound c.args.m) c.loop-i.i)
 
 pub returns : goal.returns
 returns c =
     let s = bound-small c.args.m c.requires in
-    let f = c.loop-i.invariant.0 in
     let e : c.loop-i.i ≡ c.args.m.pairs.count = omega arith in
-    let r = c.loop-i.invariant.1 ∙ ap (λ k. sum_in (pair_bound c.args.m) k 0) e ∙ bounds-all c.args.m in
+    let r = c.loop-i.invariant ∙ ap (λ k. sum_in (pair_bound c.args.m) k 0) e ∙ bounds-all c.args.m in
     (r, omega arith)

@@ -1,4 +1,3 @@
-use Prim.Native.Nat.{◌-◌}
 use mathlib.Core.Path.{◌≡◌}
 use lib.ListN.{length}
 use Rattle.sides.specs.Contacts.{pair_bound}
@@ -7,7 +6,4 @@ use Rattle.shown_rows.proofs.AllPairs.{AllPairs}
 use Rattle.shown_rows.proofs.put_rows.Given as goal
 
 abbrev pub invariant-loop-i : goal.invariant-loop-i
-invariant-loop-i l = (length l.near ≡ 784) × (length l.named ≡ 784) × AllPairs (rows_of_pair (record { bodies = l.bodies; parts = l.ps; outlines = l.o; pairs = l.pairs }) l.q l.margin) (grads_of_pair (record { bodies = l.bodies; parts = l.ps; outlines = l.o; pairs = l.pairs }) l.q l.margin) (slips_of_pair (record { bodies = l.bodies; parts = l.ps; outlines = l.o; pairs = l.pairs }) l.q l.margin) (pair_bound (record { bodies = l.bodies; parts = l.ps; outlines = l.o; pairs = l.pairs })) l.pairs.count l.bodies.coords l.initial.places l.places l.initial.values l.values l.initial.grad l.grad l.initial.slip l.slip l.at l.i
-
-abbrev pub decreases-loop-i : goal.decreases-loop-i
-decreases-loop-i l = l.pairs.count - l.i
+invariant-loop-i l = (length l.near ≡ 784) × (length l.named ≡ 784) × AllPairs (rows_of_pair l.m l.q l.margin) (grads_of_pair l.m l.q l.margin) (slips_of_pair l.m l.q l.margin) (pair_bound l.m) l.m.pairs.count l.m.bodies.coords l.initial.places l.places l.initial.values l.values l.initial.grad l.grad l.initial.slip l.slip l.at l.i

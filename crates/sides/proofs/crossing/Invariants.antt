@@ -1,4 +1,4 @@
-use Prim.Native.Nat.{ℕ, ◌-◌}
+use Prim.Native.Nat.{ℕ}
 use mathlib.Core.Path.{◌≡◌}
 use mathlib.Core.List.{List, map}
 use lib.Ieee.{Float}
@@ -8,14 +8,12 @@ use Rattle.mechanism.specs.Segments.{outlines_in}
 use Rattle.mechanism.specs.declared.part.Part.{Part}
 use Rattle.silhouette.specs.Silhouette.{silhouette_from}
 use Rattle.sides.specs.Features.{seg_in, crossing_of}
-use Rattle.sides.specs.declared.MaybePoint.{MaybePoint}
 use Rattle.sides.proofs.crossing.Given as goal
+use Rattle.std.proofs.Common.{Option}
+use Rattle.geometry.specs.declared.Point.{Point}
 
-abbrev crossed : List (List Float) → ℕ → Part → Float → ℕ → ℕ → MaybePoint
+abbrev crossed : List (List Float) → ℕ → Part → Float → ℕ → ℕ → Option Point
 crossed segs first p axis i past = crossing_of axis (map (λ j. start_of (seg_in (silhouette_from (outlines_in segs) first p) j)) (range i past))
 
 abbrev pub invariant-loop-i : goal.invariant-loop-i
 invariant-loop-i l = crossed l.segs l.first l.p l.axis l.i l.past ≡ crossed l.segs l.first l.p l.axis l.from l.past
-
-abbrev pub decreases-loop-i : goal.decreases-loop-i
-decreases-loop-i l = l.past - l.i

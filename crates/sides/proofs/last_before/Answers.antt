@@ -1,8 +1,8 @@
 use Prim.Native.Nat.{◌-◌}
 use native.Mathlib.Omega.{arith}
 use mathlib.Core.Path.{sym, ap, ◌∙◌}
-use borrow.Author.Tests.{lt-ltb, le-ltb}
-use Rattle.laws.proofs.Choice.{cond_yes, cond_no}
+use borrow.Author.Tests.{lt-ltb}
+use Rattle.laws.proofs.Choice.{cond_yes}
 use Rattle.sides.specs.Features as F
 use Rattle.sides.proofs.Sizes.{sized}
 use Rattle.sides.proofs.Known.{runs_long}
@@ -18,6 +18,3 @@ pub returns-then-k-gt0 : goal.returns-then-k-gt0
 returns-then-k-gt0 c =
     let s = c in
     c.last_seg.ensures ∙ ap F.last_seg (sym (run_at_lem s.args.ts (s.args.k - 1) (omega arith))) ∙ sym (cond_yes _ _ (lt-ltb 0 s.args.k c.if-k-gt0.true))
-
-pub returns : goal.returns
-returns c = sym (cond_no _ _ (le-ltb 0 c.args.k c.if-k-gt0.false))

@@ -14,13 +14,7 @@ use Rattle.sides.proofs.Sizes.{sized}
 use Rattle.sides.proofs.read_all.Goals as goal
 
 pub loop-k-init : goal.loop-k-init
-loop-k-init c = (omega arith, grown-as (sym (join_nothing _ 0)) (sym (join_nothing _ 0)) (grown-same _))
-
-pub offset_bounds-ts-k : goal.offset_bounds-ts-k
-offset_bounds-ts-k c = omega arith
-
-pub bounds-ts-k : goal.bounds-ts-k
-bounds-ts-k c = omega arith
+loop-k-init c = grown-as (sym (join_nothing _ 0)) (sym (join_nothing _ 0)) (grown-same _)
 
 pub read_range-f-requires : goal.read_range-f-requires
 read_range-f-requires c =
@@ -30,7 +24,7 @@ read_range-f-requires c =
     let h = c.loop-k-test.true in
     let m = runs_long ts _ s.well_formed.0 in
     let v = sized ts c.loop-k.k h m s.requires.0 s.requires.1 in
-    let w = c.loop-k.invariant.1 in
+    let w = c.loop-k.invariant in
     let x = w.more_faces in
     let y = w.more_discs in
     let a = faces_upto (F.runs_in ts) c.loop-k.k in
@@ -41,20 +35,14 @@ read_range-f-requires c =
     let q = s.requires.1.few in
     (v.0, v.1, omega arith, omega arith)
 
-pub overflow_add-k : goal.overflow_add-k
-overflow_add-k c = omega arith
-
-pub loop-k-smaller : goal.loop-k-smaller
-loop-k-smaller c = omega arith
-
 pub loop-k-preserved : goal.loop-k-preserved
 loop-k-preserved c =
     let s = c in
     let ts = s.args.ts in
     let e = sym (run_at_lem ts c.loop-k.k c.loop-k-test.true) in
-    let a = c.last_before-last.ensures in
-    let b = c.first_after-next.ensures in
-    (omega arith, grown-as (sym (join_more (F.faces_of_range (F.runs_in ts)) c.loop-k.k)) (sym (join_more (F.discs_of_range (F.runs_in ts)) c.loop-k.k)) (grown-then c.loop-k.invariant.1 (grown-as (ap F.range_faces e) (ap (λ t. F.range_discs t c.last_before-last.result c.first_after-next.result) e ∙ ap (λ x. F.range_discs (F.run_at (F.runs_in ts) c.loop-k.k) x c.first_after-next.result) a ∙ ap (F.range_discs (F.run_at (F.runs_in ts) c.loop-k.k) (F.last_before (F.runs_in ts) c.loop-k.k)) b) c.read_range-f.ensures)))
+    let a = c.last_before.ensures in
+    let b = c.first_after.ensures in
+    grown-as (sym (join_more (F.faces_of_range (F.runs_in ts)) c.loop-k.k)) (sym (join_more (F.discs_of_range (F.runs_in ts)) c.loop-k.k)) (grown-then c.loop-k.invariant (grown-as (ap F.range_faces e) (ap (λ t. F.range_discs t c.last_before.result c.first_after.result) e ∙ ap (λ x. F.range_discs (F.run_at (F.runs_in ts) c.loop-k.k) x c.first_after.result) a ∙ ap (F.range_discs (F.run_at (F.runs_in ts) c.loop-k.k) (F.last_before (F.runs_in ts) c.loop-k.k)) b) c.read_range-f.ensures))
 
 pub returns : goal.returns
 unfolding faces_of discs_of
@@ -64,4 +52,4 @@ returns c =
     let m = runs_long ts _ s.well_formed.0 in
     let n = runs_count ts (omega arith) in
     let e : c.loop-k.k ≡ length (F.runs_in ts) = omega arith in
-    grown-all c.no_features-f.ensures (ap (λ k. join_in (F.faces_of_range (F.runs_in ts)) k 0) e) (ap (λ k. join_in (F.discs_of_range (F.runs_in ts)) k 0) e) c.loop-k.invariant.1
+    grown-all c.no_features-f.ensures (ap (λ k. join_in (F.faces_of_range (F.runs_in ts)) k 0) e) (ap (λ k. join_in (F.discs_of_range (F.runs_in ts)) k 0) e) c.loop-k.invariant

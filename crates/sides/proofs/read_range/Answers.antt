@@ -14,7 +14,7 @@ pub add_disc-requires : goal.add_disc-requires
 add_disc-requires c =
     let s = c.args in
     let y = c.read_steps-g.ensures.more_discs in
-    let q = steps_few (F.run_of s.t) c.choose_seg-first.result s.t.count in
+    let q = steps_few (F.run_of s.t) c.choose_seg.result s.t.count in
     omega arith
 
 pub returns : goal.returns
@@ -22,5 +22,5 @@ unfolding range_discs
 returns c =
     let s = c.args in
     let t = s.t in
-    let o = c.choose_seg-first.ensures ∙ ap (λ b. cond b s.last t.before) (c.meet-joined.ensures ∙ ap (F.meets s.last) c.first_seg.ensures) in
+    let o = c.choose_seg.ensures ∙ ap (λ b. cond b s.last t.before) (c.meet-joined.ensures ∙ ap (F.meets s.last) c.first_seg.ensures) in
     grown-as (append-nil _) (ap (λ x. join_in (F.step_discs (F.run_of t) x) t.count 0 ++ F.placed_disc (Piece.Vertex t.part t.ends) c.end_disc.result) o ∙ ap (λ x. join_in (F.step_discs (F.run_of t) (F.opening (F.run_of t) s.last)) t.count 0 ++ x) c.end_disc.ensures) (grown-then c.read_steps-g.ensures c.add_disc.ensures)

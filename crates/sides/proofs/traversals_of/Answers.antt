@@ -8,7 +8,7 @@ use Rattle.sides.proofs.Walked.{runs_more}
 use Rattle.sides.proofs.traversals_of.Goals as goal
 
 pub loop-k-init : goal.loop-k-init
-loop-k-init c = (omega arith, refl, refl)
+loop-k-init c = (refl, refl)
 
 pub offset_bounds-u-k : goal.offset_bounds-u-k
 offset_bounds-u-k c = let b = c.requires.1.ranges in omega arith
@@ -24,31 +24,25 @@ traversal_of-requires c =
 pub offset_bounds-all-k : goal.offset_bounds-all-k
 offset_bounds-all-k c =
     let b = c.requires.1.ranges in
-    let m = c.loop-k.invariant.1 in
+    let m = c.loop-k.invariant.0 in
     omega arith
 
 pub bounds-all-k : goal.bounds-all-k
 bounds-all-k c =
     let b = c.requires.1.ranges in
-    let m = c.loop-k.invariant.1 in
+    let m = c.loop-k.invariant.0 in
     omega arith
-
-pub overflow_add-k : goal.overflow_add-k
-overflow_add-k c = omega arith
-
-pub loop-k-smaller : goal.loop-k-smaller
-loop-k-smaller c = omega arith
 
 pub loop-k-preserved : goal.loop-k-preserved
 loop-k-preserved c =
     let s = c in
     let z = ranges_long s.args.u _ s.well_formed.1.1.0 in
     let b = s.requires.1.ranges in
-    let m = c.loop-k.invariant.1 in
-    (omega arith, length-set c.loop-k.all c.loop-k.k _ ∙ m, runs_more (F.traversal_of s.args.ps s.args.o) c.loop-k.all s.args.u.range c.loop-k.k _ (omega arith) (omega arith) c.traversal_of.ensures c.loop-k.invariant.2)
+    let m = c.loop-k.invariant.0 in
+    (length-set c.loop-k.all c.loop-k.k _ ∙ m, runs_more (F.traversal_of s.args.ps s.args.o) c.loop-k.all s.args.u.range c.loop-k.k _ (omega arith) (omega arith) c.traversal_of.ensures c.loop-k.invariant.1)
 
 pub returns : goal.returns
 returns c =
     let s = c in
     let e : s.args.u.count ≡ c.loop-k.k = omega arith in
-    (refl, ap (λ n. map F.run_of (take n c.loop-k.all)) e ∙ c.loop-k.invariant.2 ∙ ap (λ n. map (F.traversal_of s.args.ps s.args.o) (take n s.args.u.range)) (sym e))
+    (refl, ap (λ n. map F.run_of (take n c.loop-k.all)) e ∙ c.loop-k.invariant.1 ∙ ap (λ n. map (F.traversal_of s.args.ps s.args.o) (take n s.args.u.range)) (sym e))

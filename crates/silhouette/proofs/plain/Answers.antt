@@ -10,37 +10,24 @@ use Rattle.silhouette.proofs.Walks.{held-long, walk-on, up_done, starts-blank, s
 use Rattle.silhouette.proofs.plain.Goals as goal
 
 pub loop-i-init : goal.loop-i-init
-loop-i-init c = (omega arith, starts-blank 94 c.no_line-seg.ensures)
-
-pub offset_bounds-o-i : goal.offset_bounds-o-i
-offset_bounds-o-i c = omega arith
-
-pub bounds-o-i : goal.bounds-o-i
-bounds-o-i c = omega arith
+loop-i-init c = starts-blank 94 c.no_line-seg.ensures
 
 pub offset_bounds-seg-i : goal.offset_bounds-seg-i
-offset_bounds-seg-i c = let w = c.loop-i.invariant.1.long in omega arith
+offset_bounds-seg-i c = let w = c.loop-i.invariant.long in omega arith
 
 pub bounds-seg-i : goal.bounds-seg-i
-bounds-seg-i c = let w = c.loop-i.invariant.1.long in omega arith
-
-pub overflow_add-i : goal.overflow_add-i
-overflow_add-i c = omega arith
-
-pub loop-i-smaller : goal.loop-i-smaller
-loop-i-smaller c = omega arith
+bounds-seg-i c = let w = c.loop-i.invariant.long in omega arith
 
 pub loop-i-preserved : goal.loop-i-preserved
 loop-i-preserved c =
     let s = c in
     let l = c.loop-i in
     let k = outline-long s.args.o _ s.well_formed.0 in
-    (omega arith, puts (walk-on s.args.o.seg s.args.o.count l.i (omega arith) (omega arith)) l.invariant.1)
+    puts (walk-on s.args.o.seg s.args.o.count l.i (omega arith) (omega arith)) l.invariant
 
 pub returns : goal.returns
 returns c =
-    let s = c in
-    let l = c.loop-i in
-    let k = outline-long s.args.o _ s.well_formed.0 in
-    let n : s.args.o.count ≤ length s.args.o.seg = omega arith in
-    silhouette_done (outline_in s.args.o) (ap (map boxed) (up_done s.args.o.count l.i _ (held-long _ _ n) (omega arith))) l.invariant.1
+    let o = c.args.o in
+    let k = outline-long o _ c.well_formed.0 in
+    let n : o.count ≤ length o.seg = omega arith in
+    silhouette_done (outline_in o) (held-long _ _ n) (ap (map boxed) (up_done o.count c.loop-i.i _ (held-long _ _ n) (omega arith))) c.loop-i.invariant

@@ -11,28 +11,13 @@ use Rattle.silhouette.proofs.Walks.{drop-on, up_done, starts-blank, outline-done
 use Rattle.silhouette.proofs.segs_from.Goals as goal
 
 pub loop-i-init : goal.loop-i-init
-loop-i-init c = (omega arith, starts-blank 48 c.no_line-seg.ensures)
-
-pub overflow_add-seg : goal.overflow_add-seg
-overflow_add-seg c = omega arith
-
-pub offset_bounds-o-at : goal.offset_bounds-o-at
-offset_bounds-o-at c = omega arith
-
-pub bounds-o-at : goal.bounds-o-at
-bounds-o-at c = omega arith
+loop-i-init c = starts-blank 48 c.no_line-seg.ensures
 
 pub offset_bounds-seg-i : goal.offset_bounds-seg-i
-offset_bounds-seg-i c = let w = c.loop-i.invariant.1.long in omega arith
+offset_bounds-seg-i c = let w = c.loop-i.invariant.long in omega arith
 
 pub bounds-seg-i : goal.bounds-seg-i
-bounds-seg-i c = let w = c.loop-i.invariant.1.long in omega arith
-
-pub overflow_add-i : goal.overflow_add-i
-overflow_add-i c = omega arith
-
-pub loop-i-smaller : goal.loop-i-smaller
-loop-i-smaller c = omega arith
+bounds-seg-i c = let w = c.loop-i.invariant.long in omega arith
 
 pub loop-i-preserved : goal.loop-i-preserved
 loop-i-preserved c =
@@ -40,7 +25,7 @@ loop-i-preserved c =
     let l = c.loop-i in
     let k = outlines-long s.args.o _ s.well_formed.0 in
     let d = length-drop s.args.at s.args.o.seg in
-    (omega arith, puts (drop-on (drop s.args.at s.args.o.seg) s.args.n l.i (omega arith) (omega arith) ∙ ap (λ x. x ∷ drop (l.i + 1) (take s.args.n (drop s.args.at s.args.o.seg))) (get_or-drop s.args.at s.args.o.seg l.i no_seg)) l.invariant.1)
+    puts (drop-on (drop s.args.at s.args.o.seg) s.args.n l.i (omega arith) (omega arith) ∙ ap (λ x. x ∷ drop (l.i + 1) (take s.args.n (drop s.args.at s.args.o.seg))) (get_or-drop s.args.at s.args.o.seg l.i no_seg)) l.invariant
 
 pub returns : goal.returns
 returns c =
@@ -50,4 +35,4 @@ returns c =
     let d = length-drop s.args.at s.args.o.seg in
     let n : s.args.n ≤ length (drop s.args.at s.args.o.seg) = omega arith in
     let m = length-take-le s.args.n (drop s.args.at s.args.o.seg) n in
-    (refl, outline-done m s.requires.1 (up_done s.args.n l.i _ m (omega arith)) l.invariant.1)
+    (refl, outline-done m s.requires.1 (up_done s.args.n l.i _ m (omega arith)) l.invariant)

@@ -8,7 +8,7 @@ use Rattle.silhouette.proofs.start_of.Goals as goal
 
 pub loop-k-init : goal.loop-k-init
 unfolding fold_in
-loop-k-init c = (omega arith, refl)
+loop-k-init c = refl
 
 pub offset_bounds-ps-k : goal.offset_bounds-ps-k
 offset_bounds-ps-k c = let h = c.requires.0.count in omega arith
@@ -17,28 +17,12 @@ pub bounds-ps-k : goal.bounds-ps-k
 bounds-ps-k c = let h = c.requires.0.count in omega arith
 
 pub overflow_add-at : goal.overflow_add-at
-overflow_add-at c =
-    let s = c in
-    let l = c.loop-k in
-    let h = s.requires.0.all l.k (omega arith) in
-    let e = l.invariant.1 in
-    omega arith
-
-pub overflow_add-k : goal.overflow_add-k
-overflow_add-k c = let h = c.requires.0.count in omega arith
-
-pub loop-k-smaller : goal.loop-k-smaller
-loop-k-smaller c = omega arith
+overflow_add-at c = let h = c.requires.0.all c.loop-k.k (omega arith) in let e = c.loop-k.invariant in omega arith
 
 pub loop-k-preserved : goal.loop-k-preserved
-loop-k-preserved c =
-    let s = c in
-    let l = c.loop-k in
-    (omega arith, ap (λ n. n + segs_of s.args.ps l.k) l.invariant.1 ∙ sym (sum_more (segs_of s.args.ps) l.k))
+loop-k-preserved c = ap (λ n. n + segs_of c.args.ps c.loop-k.k) c.loop-k.invariant ∙ sym (sum_more (segs_of c.args.ps) c.loop-k.k)
 
 pub returns : goal.returns
 returns c =
-    let s = c in
-    let l = c.loop-k in
-    let e : l.k ≡ s.args.i = omega arith in
-    l.invariant.1 ∙ ap (start_of_part s.args.ps) e
+    let e : c.loop-k.k ≡ c.args.i = omega arith in
+    c.loop-k.invariant ∙ ap (start_of_part c.args.ps) e

@@ -1,10 +1,6 @@
-use Prim.Native.Nat.{◌-◌}
 use Rattle.strips.specs.Strips.{piece_row}
 use Rattle.tables.proofs.Written.{RowsPut}
 use Rattle.tables.proofs.put_disc_names.Given as goal
 
 abbrev pub invariant-loop-i : goal.invariant-loop-i
-invariant-loop-i l = RowsPut 28 (λ p. piece_row p.piece) l.s.disc l.initial.out l.at l.out l.to l.i
-
-abbrev pub decreases-loop-i : goal.decreases-loop-i
-decreases-loop-i l = 28 - l.i
+invariant-loop-i l = RowsPut 28 (λ p. piece_row p.piece) l.s.disc l.initial.out l.at l.out l.i

@@ -6,32 +6,16 @@ use Rattle.tables.proofs.put_drawn.Goals as goal
 pub loop-i-init : goal.loop-i-init
 loop-i-init c = places_start 8 _ _ _ _ _
 
-pub put_drawn_seg-to-requires : goal.put_drawn_seg-to-requires
-put_drawn_seg-to-requires c =
-    let e = c.silhouette_count-n.ensures.0 in
-    let r = c.loop-i.invariant.room in
-    let w = c.loop-i.invariant.rest.long in
-    omega arith
-
-pub overflow_add-i : goal.overflow_add-i
-overflow_add-i c = let e = c.silhouette_count-n.ensures.0 in omega arith
-
-pub loop-i-smaller : goal.loop-i-smaller
-loop-i-smaller c = let e = c.silhouette_count-n.ensures.0 in omega arith
-
 pub loop-i-preserved : goal.loop-i-preserved
 loop-i-preserved c =
     let s = c in
-    let e = c.silhouette_count-n.ensures.0 in
+    let e = c.silhouette_count-i-end.ensures.0 in
     let k = rows-count s.args.segs.now s.args.first s.args.p s.requires.0 s.requires.1 in
     seg-more c.loop-i.invariant (omega arith) c.silhouette_seg.ensures drawn-short c.put_drawn_seg-to.ensures
-
-pub shape_of-out : goal.shape_of-out
-shape_of-out c = c.loop-i.invariant.rest.long
 
 pub returns : goal.returns
 returns c =
     let s = c in
-    let e = c.silhouette_count-n.ensures.0 in
+    let e = c.silhouette_count-i-end.ensures.0 in
     let k = rows-count s.args.segs.now s.args.first s.args.p s.requires.0 s.requires.1 in
     seg-end c.loop-i.invariant (omega arith)

@@ -25,8 +25,8 @@ returns-then-is_sampled c =
     let m = of-sampled ps o i _ _ e (mouths_in s.args.mouths.now) s.requires.4 c.is_sampled.ensures c.if-is_sampled.true c.put_sampled-s.ensures in
     (d.0, m.0, d.1, m.1)
 
-pub returns : goal.returns
-returns c =
+pub returns-else-is_sampled : goal.returns-else-is_sampled
+returns-else-is_sampled c =
     let s = c in
     let ps = s.args.ps in
     let o = outlines_in s.args.segs.now in

@@ -1,4 +1,3 @@
-use Prim.Native.Nat.{◌-◌}
 use mathlib.Core.Path.{◌≡◌}
 use Rattle.mechanism.specs.Description.{start_of_part}
 use Rattle.mechanism.specs.Segments.{outlines_in}
@@ -6,7 +5,7 @@ use Rattle.tables.proofs.Puts.{Puts}
 use Rattle.tables.proofs.put_parts.Given as goal
 
 abbrev pub invariant-loop-i : goal.invariant-loop-i
-invariant-loop-i l = (l.first ≡ start_of_part l.ps l.i) × Puts l.ps (outlines_in l.segs) l.initial.drawn l.initial.sampled l.initial.parts l.drawn l.sampled l.parts l.at l.i
-
-abbrev pub decreases-loop-i : goal.decreases-loop-i
-decreases-loop-i l = l.ps.count - l.i
+invariant-loop-i l = record {
+  row : l.first ≡ start_of_part l.ps l.i;
+  put : Puts l.ps (outlines_in l.segs) l.initial.drawn l.initial.sampled l.initial.parts l.drawn l.sampled l.parts l.at l.i;
+}

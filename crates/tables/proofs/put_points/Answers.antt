@@ -1,5 +1,5 @@
 use native.Mathlib.Omega.{arith}
-use Rattle.tables.proofs.Puts.{of-line-as_is, of-arc_as_is}
+use Rattle.tables.proofs.Puts.{of-line-as_is}
 use Rattle.tables.proofs.put_points.Goals as goal
 
 pub put_drawn_seg-requires : goal.put_drawn_seg-requires
@@ -9,8 +9,3 @@ pub returns-in-Line : goal.returns-in-Line
 returns-in-Line c =
     let s = c.args in
     of-line-as_is s.at _ c.in-Line.is c.put_line.ensures
-
-pub returns-in-Arc : goal.returns-in-Arc
-returns-in-Arc c =
-    let s = c.args in
-    of-arc_as_is s.at _ c.in-Arc.is c.put_drawn_seg.ensures

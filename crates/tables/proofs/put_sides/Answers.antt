@@ -1,14 +1,6 @@
-use native.Mathlib.Omega.{arith}
 use Prim.Native.Nat.{◌*◌}
-use lib.ListN.{length-set}
 use Rattle.tables.proofs.Written.{set-two}
 use Rattle.tables.proofs.put_sides.Goals as goal
-
-pub bounds-sides-i-2 : goal.bounds-sides-i-2
-bounds-sides-i-2 c = rw length-set (omega arith)
-
-pub bounds-centers-i-2 : goal.bounds-centers-i-2
-bounds-centers-i-2 c = rw length-set (omega arith)
 
 pub returns : goal.returns
 returns c =

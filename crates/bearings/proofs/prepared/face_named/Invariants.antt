@@ -1,4 +1,3 @@
-use Prim.Native.Nat.{◌-◌}
 use mathlib.Core.Path.{◌≡◌}
 use lib.ListN.{take, drop}
 use Rattle.strips.specs.Strips.{faces_from}
@@ -8,6 +7,3 @@ use Rattle.bearings.proofs.prepared.face_named.Given as goal
 abbrev pub invariant-loop-i : goal.invariant-loop-i
 invariant-loop-i l =
     face_named l.piece (drop l.i (take l.n (faces_from l.faces l.first l.names l.first l.n))) ≡ face_named l.piece (faces_from l.faces l.first l.names l.first l.n)
-
-abbrev pub decreases-loop-i : goal.decreases-loop-i
-decreases-loop-i l = l.n - l.i

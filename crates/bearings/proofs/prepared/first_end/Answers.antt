@@ -12,9 +12,6 @@ loop-i-init c = let a = c.args in ap (λ l. first_of (ends_of a.piece l)) (list_
 pub overflow_add-k : goal.overflow_add-k
 overflow_add-k c = let p = c.requires in omega arith
 
-pub overflow_add-i : goal.overflow_add-i
-overflow_add-i c = let p = c.requires in omega arith
-
 pub returns-then-same_piece : goal.returns-then-same_piece
 returns-then-same_piece c =
     let a = c.args in
@@ -23,9 +20,6 @@ returns-then-same_piece c =
     let same = same_read f a.n a.piece (λ x. x.piece) no_disc c.loop-i.i h c.piece_at.ensures c.same_piece.ensures c.if-same_piece.true in
     let d = part-read f a.n (λ x. x.disc) no_disc c.loop-i.i h c.disc_at-d.ensures in
     sym (first-yes a.piece _ a.n c.loop-i.i (list_long f a.n) no_disc h same (c.on_circle.ensures ∙ ap start_of_disc d)) ∙ c.loop-i.invariant
-
-pub loop-i-smaller : goal.loop-i-smaller
-loop-i-smaller c = omega arith
 
 pub loop-i-preserved : goal.loop-i-preserved
 loop-i-preserved c =

@@ -1,4 +1,3 @@
-use Prim.Native.Nat.{◌-◌}
 use mathlib.Core.Path.{◌≡◌}
 use lib.ListN.{take, drop}
 use Rattle.strips.specs.Strips.{discs_from}
@@ -8,6 +7,3 @@ use Rattle.bearings.proofs.prepared.first_end.Given as goal
 abbrev pub invariant-loop-i : goal.invariant-loop-i
 invariant-loop-i l =
     first_of (ends_of l.piece (drop l.i (take l.n (discs_from l.discs l.first l.names l.first l.n)))) ≡ first_of (ends_of l.piece (discs_from l.discs l.first l.names l.first l.n))
-
-abbrev pub decreases-loop-i : goal.decreases-loop-i
-decreases-loop-i l = l.n - l.i

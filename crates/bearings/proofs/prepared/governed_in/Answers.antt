@@ -1,8 +1,8 @@
 use native.Mathlib.Omega.{arith}
-use mathlib.Core.Path.{sym, ap, ap₂, ◌∙◌}
-use mathlib.Core.List.{[]}
 use lib.ListN.{length}
 use Rattle.mechanism.specs.Rows.{pair_in, gap_in}
+use mathlib.Core.Path.{sym, ap, ap₂, ◌∙◌}
+use mathlib.Core.List.{[]}
 use Rattle.strips.specs.Strips.{side_at, row_a, row_b}
 use Rattle.strips.specs.declared.SideFacts.{SideFacts}
 use Rattle.bearings.specs.Prepared.{bearing_in}
@@ -12,45 +12,36 @@ use Rattle.bearings.proofs.prepared.governed_in.Goals as goal
 
 pub offset_bounds-places-i : goal.offset_bounds-places-i
 offset_bounds-places-i c =
-    let s = c in
-    let a = s.args in
-    let e = sym c.in-SomeRow.is ∙ c.governing_in-found.ensures in
-    let h = (row-there (pair_in a.places.now) (gap_in a.values.now) a.n (length a.places.now) (length a.values.now) a.pair _ e).0 in
-    let k = s.ranges in
+    let a = c.args in
+    let h = (row-there (pair_in a.places.now) (gap_in a.values.now) a.n (length a.places.now) (length a.values.now) a.pair _ (sym c.in_ok-i.was ∙ c.governing_in.ensures)).0 in
+    let k = c.ranges in
     omega (arith, h)
-
-pub bounds-places-i : goal.bounds-places-i
-bounds-places-i c = (row-there _ _ _ _ _ _ _ (sym c.in-SomeRow.is ∙ c.governing_in-found.ensures)).0
 
 pub offset_bounds-values-i : goal.offset_bounds-values-i
 offset_bounds-values-i c =
-    let s = c in
-    let a = s.args in
-    let e = sym c.in-SomeRow.is ∙ c.governing_in-found.ensures in
-    let h = (row-there (pair_in a.places.now) (gap_in a.values.now) a.n (length a.places.now) (length a.values.now) a.pair _ e).1 in
-    let k = s.ranges in
+    let a = c.args in
+    let h = (row-there (pair_in a.places.now) (gap_in a.values.now) a.n (length a.places.now) (length a.values.now) a.pair _ (sym c.in_ok-i.was ∙ c.governing_in.ensures)).1 in
+    let k = c.ranges in
     omega (arith, h)
 
+pub bounds-places-i : goal.bounds-places-i
+bounds-places-i c = (row-there _ _ _ _ _ _ _ (sym c.in_ok-i.was ∙ c.governing_in.ensures)).0
+
 pub bounds-values-i : goal.bounds-values-i
-bounds-values-i c = (row-there _ _ _ _ _ _ _ (sym c.in-SomeRow.is ∙ c.governing_in-found.ensures)).1
+bounds-values-i c = (row-there _ _ _ _ _ _ _ (sym c.in_ok-i.was ∙ c.governing_in.ensures)).1
 
 pub bearing_of-requires : goal.bearing_of-requires
-bearing_of-requires c = (c.side_at.ensures.1, c.side_at-in-SomeRow.ensures.1)
+bearing_of-requires c = (c.side_at-a.ensures.1, c.side_at-b.ensures.1)
 
-pub returns-in-SomeRow : goal.returns-in-SomeRow
-returns-in-SomeRow c =
+pub returns : goal.returns
+returns c =
     let a = c.args in
-    let t1 = simp c.governing_in-found.ensures at c.in-SomeRow.is in
+    let t1 = simp c.governing_in.ensures at c.in_ok-i.was in
     let at = bearing_in a.faces.now a.fnames.now a.discs.now a.dnames.now in
-    let sa = c.side_at.ensures.0 ∙ ap (side_at a.sides.now) c.row_a.ensures in
-    let sb = c.side_at-in-SomeRow.ensures.0 ∙ ap (side_at a.sides.now) c.row_b.ensures in
+    let sa = c.side_at-a.ensures.0 ∙ ap (side_at a.sides.now) c.row_a.ensures in
+    let sb = c.side_at-b.ensures.0 ∙ ap (side_at a.sides.now) c.row_b.ensures in
     simp t1
     (c.bearing_of.ensures
     ∙ ap₂ (λ (x : SideFacts) (y : SideFacts). at x y a.q c.row_from.result) sa sb
     ∙ ap (at (side_at a.sides.now (row_a a.pair)) (side_at a.sides.now (row_b a.pair)) a.q) c.row_from.ensures
     ∙ bearing-read a.faces.now a.fnames.now a.discs.now a.dnames.now a.sides.now [] a.pair a.q _)
-
-pub returns-in-NoRow : goal.returns-in-NoRow
-returns-in-NoRow c =
-    let t1 = simp c.governing_in-found.ensures at c.in-NoRow.is in
-    simp t1

@@ -1,11 +1,8 @@
-use Prim.Native.Nat.{◌+◌, ◌≤◌}
+use Prim.Native.Nat.{◌-◌, ◌≤◌}
 use lib.ListN.{replicate}
 use Rattle.laws.specs.Loops.{Writing}
 use Rattle.bodies.specs.Pose.{columns_up, columns_of, no_column}
 use Rattle.bodies.proofs.pose.columns_at.Given as goal
 
-abbrev pub invariant-loop-steps : goal.invariant-loop-steps
-invariant-loop-steps l = (l.n + l.steps ≤ 15) × Writing (replicate 15 no_column) 0 (columns_of l.b l.q l.p l.body) l.out l.n (columns_up l.b l.q l.p l.steps l.at)
-
-abbrev pub decreases-loop-steps : goal.decreases-loop-steps
-decreases-loop-steps l = l.steps
+abbrev pub invariant-loop : goal.invariant-loop
+invariant-loop l = (l.n ≤ l.counter) × Writing (replicate 15 no_column) 0 (columns_of l.b l.q l.p l.body) l.out l.n (columns_up l.b l.q l.p (15 - l.counter) l.at)

@@ -1,11 +1,7 @@
-use Prim.Native.Nat.{◌≤◌, ◌-◌}
 use mathlib.Core.Path.{◌≡◌}
 use lib.ListN.{take, drop}
 use Rattle.bodies.specs.Pose.{no_move, last_column}
 use Rattle.bodies.proofs.pose.last_column.Given as goal
 
 abbrev pub invariant-loop-i : goal.invariant-loop-i
-invariant-loop-i l = (l.i ≤ l.k.count) × (last_column l.coord l.found (drop l.i (take l.k.count l.k.column)) ≡ last_column l.coord no_move (take l.k.count l.k.column))
-
-abbrev pub decreases-loop-i : goal.decreases-loop-i
-decreases-loop-i l = l.k.count - l.i
+invariant-loop-i l = last_column l.coord l.found (drop l.i (take l.k.count l.k.column)) ≡ last_column l.coord no_move (take l.k.count l.k.column)

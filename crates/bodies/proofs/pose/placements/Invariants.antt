@@ -1,4 +1,4 @@
-use Prim.Native.Nat.{◌≤◌, ◌-◌}
+use Prim.Native.Nat.{◌-◌}
 use mathlib.Core.Path.{◌≡◌}
 use lib.ListN.{length, replicate}
 use Rattle.laws.specs.Loops.{fold_in}
@@ -6,7 +6,4 @@ use Rattle.bodies.specs.Pose.{world, place_next}
 use Rattle.bodies.proofs.pose.placements.Given as goal
 
 abbrev pub invariant-loop-i : goal.invariant-loop-i
-invariant-loop-i l = (l.i ≤ l.b.count) × (length l.placed ≡ 16) × (fold_in (place_next l.b l.q) l.placed (l.b.count - l.i) l.i ≡ fold_in (place_next l.b l.q) (replicate 16 world) l.b.count 0)
-
-abbrev pub decreases-loop-i : goal.decreases-loop-i
-decreases-loop-i l = l.b.count - l.i
+invariant-loop-i l = (length l.placement ≡ 16) × (fold_in (place_next l.b l.q) l.placement (l.b.count - l.i) l.i ≡ fold_in (place_next l.b l.q) (replicate 16 world) l.b.count 0)

@@ -8,31 +8,27 @@ use Rattle.drawing.proofs.prepared.all_drawn.Goals as goal
 
 pub loop-i-init : goal.loop-i-init
 unfolding fold_in
-loop-i-init c = (omega arith, c.part_count-n.ensures.1, c.part_count-n.ensures.0, refl, omega arith)
+loop-i-init c = (refl, omega arith)
 
 pub overflow_add-sum : goal.overflow_add-sum
 overflow_add-sum c =
-    let v = c.loop-i.invariant in
-    let e = c.part_at-p.ensures.1.points_few in
-    omega (arith, v.1, v.4, v.0, e)
-
-pub overflow_add-i : goal.overflow_add-i
-overflow_add-i c = let v = c.loop-i.invariant in omega (arith, v.1)
-
-pub loop-i-smaller : goal.loop-i-smaller
-loop-i-smaller c = omega arith
+    let n = c.part_count-i-end.ensures.1 in
+    let v = c.loop-i.invariant.1 in
+    let e = c.part_at-sum.ensures.1.points_few in
+    omega arith
 
 pub loop-i-preserved : goal.loop-i-preserved
 loop-i-preserved c =
     let v = c.loop-i.invariant in
-    let x = c.part_at-p.ensures in
+    let x = c.part_at-sum.ensures in
     let e = x.1.points_few in
     let f : _ ≡ drawn_in c.args.parts.now c.loop-i.i = ap (λ p. p.points) x.0 in
     let s = sum_more (drawn_in c.args.parts.now) c.loop-i.i in
-    (omega arith, v.1, v.2, omega (arith, v.3, f, s), omega (arith, v.4, e))
+    (omega (arith, v.0, f, s), omega (arith, v.1, e))
 
 pub returns : goal.returns
 returns c =
     let v = c.loop-i.invariant in
-    let n : c.loop-i.i ≡ parts_in c.args.parts.now = omega (arith, v.0, v.2, c.loop-i-test.false) in
-    (v.3 ∙ ap (λ k. sum_in (drawn_in c.args.parts.now) k 0) n, omega (arith, v.0, v.1, v.4))
+    let m = c.part_count-i-end.ensures in
+    let n : c.loop-i.i ≡ parts_in c.args.parts.now = omega (arith, m.0) in
+    (v.0 ∙ ap (λ k. sum_in (drawn_in c.args.parts.now) k 0) n, omega (arith, m.1, v.1))

@@ -1,5 +1,4 @@
-use Prim.Native.Nat.{◌+◌, ◌-◌, ◌≤◌}
-use mathlib.Core.Path.{◌≡◌}
+use Prim.Native.Nat.{◌+◌, ◌-◌}
 use mathlib.Core.List.{map}
 use Rattle.laws.specs.Lists.{list_in}
 use Rattle.laws.specs.Loops.{Writing}
@@ -9,7 +8,4 @@ use Rattle.drawing.specs.Drawing.{row_of}
 use Rattle.drawing.proofs.prepared.place_points.Given as goal
 
 abbrev pub invariant-loop-i : goal.invariant-loop-i
-invariant-loop-i l = (l.i ≤ l.n) × (l.to ≡ l.at + l.i) × Writing l.initial.points l.at (map row_of (map (world_of l.place) (list_in (point_at l.drawn) l.n l.first))) l.points l.to (map row_of (map (world_of l.place) (list_in (point_at l.drawn) (l.n - l.i) (l.first + l.i))))
-
-abbrev pub decreases-loop-i : goal.decreases-loop-i
-decreases-loop-i l = l.n - l.i
+invariant-loop-i l = Writing l.initial.points l.at (map row_of (map (world_of l.place) (list_in (point_at l.drawn) l.n l.first))) l.points (l.at + l.i) (map row_of (map (world_of l.place) (list_in (point_at l.drawn) (l.n - l.i) (l.first + l.i))))

@@ -5,36 +5,24 @@ use Rattle.drawing.proofs.Segments.{ends-turn, ends-done, first-row, next_row, r
 use Rattle.drawing.proofs.samples.put_ends.Goals as goal
 
 pub loop-i-init : goal.loop-i-init
-loop-i-init c = (omega arith, first-row refl)
+loop-i-init c = first-row refl
 
 pub overflow_add-at : goal.overflow_add-at
 overflow_add-at c =
     let e = c.silhouette_count-n.ensures.0 in
-    let w = c.loop-i.invariant.1.long in
+    let w = c.loop-i.invariant.long in
     omega arith
 
 pub offset_bounds-mouths-at : goal.offset_bounds-mouths-at
 offset_bounds-mouths-at c =
     let e = c.silhouette_count-n.ensures.0 in
-    let w = c.loop-i.invariant.1.long in
+    let w = c.loop-i.invariant.long in
     omega arith
 
 pub bounds-mouths-at : goal.bounds-mouths-at
 bounds-mouths-at c =
     let e = c.silhouette_count-n.ensures.0 in
-    let w = c.loop-i.invariant.1.long in
-    omega arith
-
-pub overflow_add-i : goal.overflow_add-i
-overflow_add-i c =
-    let e = c.silhouette_count-n.ensures.0 in
-    let w = c.loop-i.invariant.1.long in
-    omega arith
-
-pub loop-i-smaller : goal.loop-i-smaller
-loop-i-smaller c =
-    let e = c.silhouette_count-n.ensures.0 in
-    let w = c.loop-i.invariant.1.long in
+    let w = c.loop-i.invariant.long in
     omega arith
 
 pub loop-i-preserved : goal.loop-i-preserved
@@ -42,20 +30,20 @@ loop-i-preserved c =
     let s = c in
     let e = c.silhouette_count-n.ensures.0 in
     let k = rows-count s.args.segs.now s.args.first s.args.p s.requires.0 s.requires.1 in
-    (omega arith, next_row _ c.loop-i.i (ends-turn _ c.loop-i.i (omega arith) c.silhouette_seg-s.ensures c.start-a.ensures c.end-e.ensures) c.loop-i.invariant.1)
+    next_row _ c.loop-i.i (ends-turn _ c.loop-i.i (omega arith) c.silhouette_seg-s.ensures c.start-a.ensures c.end-e.ensures) c.loop-i.invariant
 
 pub overflow_add-result : goal.overflow_add-result
 overflow_add-result c =
     let e = c.silhouette_count-n.ensures.0 in
-    let w = c.loop-i.invariant.1.long in
+    let w = c.loop-i.invariant.long in
     omega arith
 
 pub shape_of-mouths : goal.shape_of-mouths
-shape_of-mouths c = c.loop-i.invariant.1.long
+shape_of-mouths c = c.loop-i.invariant.long
 
 pub returns : goal.returns
 returns c =
     let s = c in
     let e = c.silhouette_count-n.ensures.0 in
     let k = rows-count s.args.segs.now s.args.first s.args.p s.requires.0 s.requires.1 in
-    (omega arith, ends (ends-done _ c.loop-i.i (omega arith)) c.loop-i.invariant.1)
+    (omega arith, ends (ends-done _ c.loop-i.i (omega arith)) c.loop-i.invariant)

@@ -1,38 +1,30 @@
 use native.Mathlib.Omega.{arith}
 use mathlib.Core.Path.{refl, ap, ◌∙◌}
-use Rattle.laws.proofs.Writing.{starts, puts, ends}
+use Rattle.laws.proofs.Writing.{ends}
 use Rattle.bodies.specs.Pose.{world_of}
 use Rattle.drawing.specs.Samples.{on_line}
 use Rattle.drawing.proofs.Mouths.{line-turn, line-done}
+use Rattle.drawing.proofs.Segments.{first-row, next_row}
 use Rattle.drawing.proofs.samples.put_line.Goals as goal
 
 pub loop-k-init : goal.loop-k-init
-loop-k-init c = (omega arith, omega arith, starts refl)
+loop-k-init c = first-row refl
 
-pub offset_bounds-samples-to : goal.offset_bounds-samples-to
-offset_bounds-samples-to c = let w = c.loop-k.invariant.2.long in omega arith
+pub offset_bounds-samples-at : goal.offset_bounds-samples-at
+offset_bounds-samples-at c = let w = c.loop-k.invariant.long in omega arith
 
-pub bounds-samples-to : goal.bounds-samples-to
-bounds-samples-to c = let w = c.loop-k.invariant.2.long in omega arith
-
-pub overflow_add-k : goal.overflow_add-k
-overflow_add-k c = omega arith
-
-pub overflow_add-to : goal.overflow_add-to
-overflow_add-to c = omega arith
-
-pub loop-k-smaller : goal.loop-k-smaller
-loop-k-smaller c = omega arith
+pub bounds-samples-at : goal.bounds-samples-at
+bounds-samples-at c = let w = c.loop-k.invariant.long in omega arith
 
 pub loop-k-preserved : goal.loop-k-preserved
 loop-k-preserved c =
-    let s = c in
-    (omega arith, omega arith, puts (line-turn (world_of s.args.place) (on_line s.args.a s.args.b) c.loop-k.k _ (omega arith) (c.world-p.ensures ∙ ap (world_of s.args.place) c.on_line.ensures)) c.loop-k.invariant.2)
+    let s = c.args in
+    next_row _ c.loop-k.k (line-turn (world_of s.place) (on_line s.a s.b) c.loop-k.k _ (omega arith) (c.world-p.ensures ∙ ap (world_of s.place) c.on_line.ensures)) c.loop-k.invariant
 
 pub shape_of-samples : goal.shape_of-samples
-shape_of-samples c = c.loop-k.invariant.2.long
+shape_of-samples c = c.loop-k.invariant.long
 
 pub returns : goal.returns
 returns c =
-    let s = c in
-    (omega arith, ends (line-done (world_of s.args.place) (on_line s.args.a s.args.b) c.loop-k.k (omega arith)) c.loop-k.invariant.2)
+    let s = c.args in
+    (refl, ends (line-done (world_of s.place) (on_line s.a s.b) c.loop-k.k (omega arith)) c.loop-k.invariant)

@@ -1,4 +1,3 @@
-use Prim.Native.Nat.{◌-◌}
 use mathlib.Core.Path.{◌≡◌}
 use Rattle.mechanism.specs.Description.{start_of_part}
 use Rattle.mechanism.specs.Segments.{outlines_in}
@@ -7,6 +6,3 @@ use Rattle.drawing.proofs.samples.put_mouths.Given as goal
 
 abbrev pub invariant-loop-i : goal.invariant-loop-i
 invariant-loop-i l = (l.first ≡ start_of_part l.ps l.i) × Mouths l.ps (outlines_in l.segs) l.initial.mouths l.mouths l.at l.i
-
-abbrev pub decreases-loop-i : goal.decreases-loop-i
-decreases-loop-i l = l.ps.count - l.i

@@ -1,4 +1,4 @@
-use Prim.Native.Nat.{◌+◌, ◌-◌, ◌≤◌}
+use Prim.Native.Nat.{ℕ, ◌+◌, ◌-◌}
 use mathlib.Core.Path.{◌≡◌}
 use mathlib.Core.Bool.{false}
 use lib.Ieee.{is_nan}
@@ -10,7 +10,6 @@ use Rattle.faces.proofs.prepared.faces_overlap.Given as goal
 
 abbrev pub invariant-loop-i : goal.invariant-loop-i
 invariant-loop-i l =
-    (l.i ≤ l.n) × (is_nan l.deepest ≡ false) × (foldl (step_of l.pa l.pb (list_in (face_at l.faces) l.m l.b)) l.deepest (list_in (λ k. face_at l.faces (l.a + k)) (l.n - l.i) l.i) ≡ foldl (step_of l.pa l.pb (list_in (face_at l.faces) l.m l.b)) zero_f (list_in (λ k. face_at l.faces (l.a + k)) l.n 0))
-
-abbrev pub decreases-loop-i : goal.decreases-loop-i
-decreases-loop-i l = l.n - l.i
+    let step = step_of l.pa l.pb (list_in (face_at l.faces) l.m l.b) in
+    let face = λ (k : ℕ). face_at l.faces (l.a + k) in
+    record { number : is_nan l.deepest ≡ false; held : foldl step l.deepest (list_in face (l.n - l.i) l.i) ≡ foldl step zero_f (list_in face l.n 0) }

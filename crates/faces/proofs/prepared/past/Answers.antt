@@ -1,5 +1,4 @@
 use Prim.Native.Nat.{◌+◌}
-use native.Mathlib.Omega.{arith}
 use mathlib.Core.Path.{sym, ap, ◌∙◌}
 use mathlib.Core.Bool.{false}
 use Rattle.laws.specs.Lists.{foldl}
@@ -11,34 +10,27 @@ use Rattle.faces.proofs.Steps.{past-taken}
 use Rattle.faces.proofs.prepared.past.Goals as goal
 
 pub loop-i-init : goal.loop-i-init
-loop-i-init c = (omega arith, c.requires.0, ap (foldl (past_of c.args.a0 c.args.a1 c.args.normal c.args.place) c.args.deepest) (list_whole (λ k. face_at c.args.faces.now (c.args.first + k)) c.args.n))
-
-pub overflow_add-first : goal.overflow_add-first
-overflow_add-first c =
-    let p = c.requires.1 in
-    let q = c.requires.2 in
-    omega arith
-
-pub overflow_add-i : goal.overflow_add-i
-overflow_add-i c = let q = c.requires.2 in omega arith
-
-pub over-d-requires : goal.over-d-requires
-over-d-requires c = c.loop-i.invariant.1
-
-pub loop-i-smaller : goal.loop-i-smaller
-loop-i-smaller c = omega arith
+loop-i-init c =
+    let s = c.args in
+    record {
+      number = c.requires.0;
+      held = ap (foldl (past_of s.a0 s.a1 s.normal s.place) s.deepest) (list_whole (λ k. face_at s.faces.now (s.first + k)) s.n);
+    }
 
 pub loop-i-preserved : goal.loop-i-preserved
 loop-i-preserved c =
     let s = c.args in
-    let e = past-taken s.a0 s.a1 s.normal s.place c.loop-i.d c.face_at-f.result c.world-b0.ensures c.world-b1.ensures c.over-d.ensures.0 in
-    (omega arith, c.over-d.ensures.1, fold_read (past_of s.a0 s.a1 s.normal s.place) (λ k. face_at s.faces.now (s.first + k)) s.n c.loop-i.i c.loop-i-test.true c.face_at-f.ensures e ∙ c.loop-i.invariant.2)
+    let e = past-taken s.a0 s.a1 s.normal s.place c.loop-i.d c.face_at-f.result c.world.ensures c.world-in-loop-i.ensures c.over-d.ensures.0 in
+    record {
+      number = c.over-d.ensures.1;
+      held = fold_read (past_of s.a0 s.a1 s.normal s.place) (λ k. face_at s.faces.now (s.first + k)) s.n c.loop-i.i c.loop-i-test.true c.face_at-f.ensures e ∙ c.loop-i.invariant.held;
+    }
 
 pub returns : goal.returns
 returns c =
     let s = c.args in
     let step = past_of s.a0 s.a1 s.normal s.place in (
-      sym (fold_done step (λ k. face_at s.faces.now (s.first + k)) c.loop-i.d s.n c.loop-i.i c.loop-i-test.false) ∙ c.loop-i.invariant.2
+      sym (fold_done step (λ k. face_at s.faces.now (s.first + k)) c.loop-i.d s.n c.loop-i.i c.loop-i-test.false) ∙ c.loop-i.invariant.held
           ∙ ap (foldl step s.deepest) (list_from (face_at s.faces.now) s.first s.n),
-      c.loop-i.invariant.1,
+      c.loop-i.invariant.number,
     )

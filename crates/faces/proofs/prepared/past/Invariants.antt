@@ -1,4 +1,4 @@
-use Prim.Native.Nat.{◌+◌, ◌-◌, ◌≤◌}
+use Prim.Native.Nat.{ℕ, ◌+◌, ◌-◌}
 use mathlib.Core.Path.{◌≡◌}
 use mathlib.Core.Bool.{false}
 use lib.Ieee.{is_nan}
@@ -9,7 +9,6 @@ use Rattle.faces.proofs.prepared.past.Given as goal
 
 abbrev pub invariant-loop-i : goal.invariant-loop-i
 invariant-loop-i l =
-    (l.i ≤ l.n) × (is_nan l.d ≡ false) × (foldl (past_of l.a0 l.a1 l.normal l.place) l.d (list_in (λ k. face_at l.faces (l.first + k)) (l.n - l.i) l.i) ≡ foldl (past_of l.a0 l.a1 l.normal l.place) l.deepest (list_in (λ k. face_at l.faces (l.first + k)) l.n 0))
-
-abbrev pub decreases-loop-i : goal.decreases-loop-i
-decreases-loop-i l = l.n - l.i
+    let step = past_of l.a0 l.a1 l.normal l.place in
+    let face = λ (k : ℕ). face_at l.faces (l.first + k) in
+    record { number : is_nan l.d ≡ false; held : foldl step l.d (list_in face (l.n - l.i) l.i) ≡ foldl step l.deepest (list_in face l.n 0) }

@@ -19,19 +19,17 @@ pub overflow_add-l : goal.overflow_add-l
 overflow_add-l c = omega (arith, square c.args.g c.requires.few_bits)
 
 pub overflow_sub-d : goal.overflow_sub-d
-overflow_sub-d c = let s = c in lower-fits s.args.m s.args.g s.requires.few_bits c.if-h-m.true
+overflow_sub-d c = lower-fits c.args.m c.args.g c.requires.few_bits c.if-h-m.true
 
 pub overflow_sub-result-then-i-lt67 : goal.overflow_sub-result-then-i-lt67
 overflow_sub-result-then-i-lt67 c =
-    let s = c in
-    let m = s.args.m in
-    let g = s.args.g in
-    let p = guess_pos m g (excess m g) s.requires.in_range (excess-is m g s.requires.few_bits c.if-h-m.true) c.if-i-lt67.true in
+    let m = c.args.m in
+    let g = c.args.g in
+    let p = guess_pos m g (excess m g) c.requires.in_range (excess-is m g c.requires.few_bits c.if-h-m.true) c.if-i-lt67.true in
     omega arith
 
 pub returns-then-i-lt67 : goal.returns-then-i-lt67
 returns-then-i-lt67 c =
-    let s = c in
-    let m = s.args.m in
-    let g = s.args.g in
-    around m g (excess m g) s.requires.in_range s.requires.few_bits (excess-is m g s.requires.few_bits c.if-h-m.true) c.if-i-ge61.true c.if-i-lt67.true
+    let m = c.args.m in
+    let g = c.args.g in
+    around m g (excess m g) c.requires.in_range c.requires.few_bits (excess-is m g c.requires.few_bits c.if-h-m.true) c.if-i-ge61.true c.if-i-lt67.true

@@ -7,5 +7,4 @@ use Rattle.mechanism.proofs.check.check.Goals as goal
 
 pub returns : goal.returns
 returns c =
-    let s = c in
-    check_put s.args.m (replicate 384 (replicate 8 zero_f)) (description_long s.args.m _ s.well_formed.0) refl c.segs_counted.ensures c.put_segs.ensures c.check_in.ensures
+    check_put c.args.m (replicate 384 (replicate 8 zero_f)) (description_long c.args.m _ c.well_formed.0) refl c.segs_counted.ensures c.put_segs.ensures c.check_in.ensures

@@ -1,4 +1,4 @@
-use Prim.Native.Nat.{◌≤◌, ◌-◌}
+use Prim.Native.Nat.{◌-◌}
 use mathlib.Core.Path.{◌≡◌}
 use Rattle.laws.specs.Loops.{any_in}
 use Rattle.mechanism.specs.Description.{pair_at}
@@ -6,7 +6,6 @@ use Rattle.mechanism.specs.Check.{pair_over}
 use Rattle.mechanism.proofs.check.pairs_over.Given as goal
 
 abbrev pub invariant-loop-i : goal.invariant-loop-i
-invariant-loop-i l = (l.i ≤ l.p.count) × (any_in (λ k. pair_over (pair_at l.p k)) (l.p.count - l.i) l.i ≡ any_in (λ k. pair_over (pair_at l.p k)) l.p.count 0)
-
-abbrev pub decreases-loop-i : goal.decreases-loop-i
-decreases-loop-i l = l.p.count - l.i
+invariant-loop-i l =
+    any_in (λ k. pair_over (pair_at l.p k)) (l.p.count - l.i) l.i
+    ≡ any_in (λ k. pair_over (pair_at l.p k)) l.p.count 0

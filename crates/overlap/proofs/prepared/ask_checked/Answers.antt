@@ -2,8 +2,7 @@ use mathlib.Core.Path.{sym, ap, ◌∙◌}
 use mathlib.Core.Bool.{Bool, true}
 use borrow.Author.Tests.{lt-ltb, le-ltb}
 use lib.Dec.{ltb}
-use Rattle.bodies.specs.Check.{bodies_stand}
-use Rattle.bodies.specs.declared.Checked.{Checked}
+use Rattle.bodies.specs.Check.{Checked, bodies_stand}
 use Rattle.bodies.specs.declared.Problem.TheVariants.{LimitPassed}
 use Rattle.bodies.proofs.Checks.{stops-if, goes-on_if}
 use Rattle.mechanism.specs.Check.{then_called}

@@ -8,9 +8,6 @@ returns-then-s-eq0 c =
     pair-features a.drawn.now a.sampled.now a.parts.now a.choices.now a.q a.sides.now a.centers.now a.pair s.requires.1
     c.row_a-a.ensures c.row_b-b.ensures c.side_at-s.ensures.0 c.if-s-eq0.true c.sunk_both.ensures
 
-pub depth_by-requires : goal.depth_by-requires
-depth_by-requires c = c.requires.0
-
 pub returns : goal.returns
 returns c =
     let s = c in

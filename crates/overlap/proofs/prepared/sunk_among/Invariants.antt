@@ -1,4 +1,3 @@
-use Prim.Native.Nat.{◌-◌}
 use mathlib.Core.Path.{◌≡◌}
 use Rattle.material.specs.Material.{material_of}
 use Rattle.material.proofs.Squares.{PlainNumber}
@@ -10,7 +9,8 @@ use Rattle.overlap.proofs.prepared.sunk_among.Given as goal
 
 abbrev pub invariant-loop-i : goal.invariant-loop-i
 invariant-loop-i l =
-    PlainNumber l.d × (sunk_from (material_of l.points l.starts l.n.solids l.n.all) (samples_in l.sampled l.parts l.q) (chosen_as l.w 1) (parts_in l.parts) l.d l.i ≡ sunk_in l.sampled l.parts l.q l.w (material_of l.points l.starts l.n.solids l.n.all))
-
-abbrev pub decreases-loop-i : goal.decreases-loop-i
-decreases-loop-i l = l.count - l.i
+    let m = material_of l.points l.starts l.n.solids l.n.all in
+    record {
+      plain : PlainNumber l.d;
+      deep : sunk_from m (samples_in l.sampled l.parts l.q) (chosen_as l.w 1) (parts_in l.parts) l.d l.i ≡ sunk_in l.sampled l.parts l.q l.w m;
+    }

@@ -14,15 +14,6 @@ loop-i-init c =
     let s = c.args in
     squares-start (material_of s.points.now s.starts.now s.n.solids s.n.all) (world_of s.place) (point_at s.sampled.now) s.first s.count s.from
 
-pub overflow_add-first : goal.overflow_add-first
-overflow_add-first c = let h = c.requires in omega (arith, h.0, h.1)
-
-pub overflow_add-i : goal.overflow_add-i
-overflow_add-i c = omega arith
-
-pub loop-i-smaller : goal.loop-i-smaller
-loop-i-smaller c = omega arith
-
 pub loop-i-preserved : goal.loop-i-preserved
 loop-i-preserved c =
     let a = c in

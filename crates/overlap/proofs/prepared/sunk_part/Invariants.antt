@@ -1,4 +1,3 @@
-use Prim.Native.Nat.{◌-◌}
 use mathlib.Core.Path.{◌≡◌}
 use mathlib.Core.List.{map}
 use Rattle.laws.specs.Lists.{list_in}
@@ -12,6 +11,3 @@ abbrev pub invariant-loop-i : goal.invariant-loop-i
 invariant-loop-i l =
     squares_from (material_of l.points l.starts l.n.solids l.n.all) (world_of l.place) (point_at l.sampled) l.first l.count l.d l.i
     ≡ deepest_square (material_of l.points l.starts l.n.solids l.n.all) l.from (map (world_of l.place) (list_in (point_at l.sampled) l.count l.first))
-
-abbrev pub decreases-loop-i : goal.decreases-loop-i
-decreases-loop-i l = l.count - l.i

@@ -1,18 +1,12 @@
 use native.Mathlib.Omega.{arith}
-use Rattle.reading_lines.proofs.DigitLaws.{counts_start, counts-room, counts-more, counts_end}
+use mathlib.Core.Path.{sym}
+use Rattle.reading_lines.proofs.DigitLaws.{count-one, count-power}
 use Rattle.reading_lines.proofs.digits.digit_count.Goals as goal
 
-pub loop-rest-init : goal.loop-rest-init
-loop-rest-init c = counts_start c.args.v (omega arith)
+pub returns-in-Some : goal.returns-in-Some
+returns-in-Some c =
+    let e = c.in-Some.ensures in
+    sym (count-power 19 c.in-Some.k c.args.v (omega (arith, e.bound)) e.power_le e.next_power_gt)
 
-pub overflow_add-n : goal.overflow_add-n
-overflow_add-n c = omega (arith, counts-room c.loop-rest.invariant c.loop-rest-test.true)
-
-pub loop-rest-smaller : goal.loop-rest-smaller
-loop-rest-smaller c = omega arith
-
-pub loop-rest-preserved : goal.loop-rest-preserved
-loop-rest-preserved c = counts-more c.loop-rest.invariant c.loop-rest-test.true
-
-pub returns : goal.returns
-returns c = counts_end c.loop-rest.invariant c.loop-rest-test.false
+pub returns-in-None : goal.returns-in-None
+returns-in-None c = sym (count-one 19 c.args.v (omega (arith, c.in-None.ensures.none)))

@@ -1,10 +1,6 @@
-use Prim.Native.Nat.{◌-◌}
 use Rattle.reading_lines.specs.Readings.{pair_lines_in}
 use Rattle.reading_lines.proofs.WholeLaws.{Parts}
 use Rattle.reading_lines.proofs.whole.all_lines.Given as goal
 
 abbrev pub invariant-loop-i : goal.invariant-loop-i
 invariant-loop-i l = Parts (pair_lines_in l.coords l.places l.values l.grad l.slip l.r) l.r.pairs l.initial.out 0 l.out l.k l.i
-
-abbrev pub decreases-loop-i : goal.decreases-loop-i
-decreases-loop-i l = l.r.pairs - l.i

@@ -1,4 +1,3 @@
-use Prim.Native.Nat.{◌-◌}
 use mathlib.Core.List.{[]}
 use mathlib.Core.Bool.{cond}
 use lib.Dec.{eqb}
@@ -9,6 +8,3 @@ use Rattle.reading_lines.proofs.whole.pair_rows.Given as goal
 
 abbrev pub invariant-loop-j : goal.invariant-loop-j
 invariant-loop-j l = Parts (λ r. cond (eqb (pair_in l.places r) l.i) (row_lines_in l.coords l.places l.values l.grad l.slip r) []) l.n l.initial.out l.at l.out l.k l.j
-
-abbrev pub decreases-loop-j : goal.decreases-loop-j
-decreases-loop-j l = l.n - l.j

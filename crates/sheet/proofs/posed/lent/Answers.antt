@@ -1,43 +1,15 @@
-use native.Mathlib.Omega.{arith}
-use mathlib.Core.Path.{refl}
-use Rattle.sheet.proofs.Lents.{lents_start, lents_more, lents_end, entries-long}
+use Rattle.std.proofs.Common.{◌≡◌, map, length, get_or, arith, sym, ◌∙◌}
+use Rattle.std.proofs.lemmas.List.{ext_get_or, get_or-map, length-map}
+use Rattle.sheet.specs.Draft.{no_entry}
+use Rattle.sheet.specs.Posed.{entry_row}
+use Rattle.sheet.proofs.Lents.{entries-long}
 use Rattle.sheet.proofs.posed.lent.Goals as goal
 
-pub loop-i-init : goal.loop-i-init
-loop-i-init c = lents_start _ _ refl
-
-pub offset_bounds-e-i : goal.offset_bounds-e-i
-offset_bounds-e-i c =
-    let long = entries-long c.args.e _ c.well_formed.0 in
-    let h = c.loop-i.invariant.long in
-    omega arith
-
-pub bounds-e-i : goal.bounds-e-i
-bounds-e-i c =
-    let long = entries-long c.args.e _ c.well_formed.0 in
-    let h = c.loop-i.invariant.long in
-    omega arith
-
-pub offset_bounds-q-i : goal.offset_bounds-q-i
-offset_bounds-q-i c =
-    let long = entries-long c.args.e _ c.well_formed.0 in
-    let h = c.loop-i.invariant.long in
-    omega arith
-
-pub bounds-q-i : goal.bounds-q-i
-bounds-q-i c =
-    let long = entries-long c.args.e _ c.well_formed.0 in
-    let h = c.loop-i.invariant.long in
-    omega arith
-
-pub overflow_add-i : goal.overflow_add-i
-overflow_add-i c = omega arith
-
-pub loop-i-smaller : goal.loop-i-smaller
-loop-i-smaller c = omega arith
-
-pub loop-i-preserved : goal.loop-i-preserved
-loop-i-preserved c = lents_more _ (entries-long c.args.e _ c.well_formed.0) c.loop-i.invariant c.loop-i-test.true
-
 pub returns : goal.returns
-returns c = lents_end (entries-long c.args.e _ c.well_formed.0) c.loop-i.invariant c.loop-i-test.false
+returns c =
+    let long : length c.args.e.entry ≡ 16 = entries-long c.args.e _ c.well_formed.0 in
+    let made : length c.map.result ≡ 16 = c.map.ensures.items.long in
+    ext_get_or (entry_row no_entry) c.map.result (map entry_row c.args.e.entry) (made ∙ sym (length-map c.args.e.entry entry_row ∙ long)) (λ i h.
+    let k = c.map.ensures.items.at i no_entry (entry_row no_entry) (omega arith) in
+    let e : get_or c.map.result i (entry_row no_entry) ≡ entry_row (get_or c.args.e.entry i no_entry) = k.2.met in
+    e ∙ sym (get_or-map entry_row c.args.e.entry i no_entry (entry_row no_entry) (omega arith)))

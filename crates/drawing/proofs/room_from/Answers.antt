@@ -1,4 +1,0 @@
-use Rattle.drawing.proofs.room_from.Goals as goal
-
-pub returns : goal.returns
-returns c = simp (c.parts_over.ensures, c.segs_counted-n.ensures.0)

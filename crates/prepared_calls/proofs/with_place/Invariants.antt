@@ -1,8 +1,0 @@
-use Prim.Native.Nat.{◌-◌, ◌≤◌}
-use Rattle.prepared_calls.proofs.with_place.Given as goal
-
-abbrev pub invariant-loop-k : goal.invariant-loop-k
-invariant-loop-k l = l.k ≤ 7
-
-abbrev pub decreases-loop-k : goal.decreases-loop-k
-decreases-loop-k l = 7 - l.k

@@ -1,7 +1,0 @@
-use mathlib.Core.Path.{sym}
-use lib.Seq.{length-take-le}
-use native.Mathlib.Omega.{arith}
-use Rattle.reading_times.proofs.first_entries.Goals as goal
-
-pub slice_bounds-result-end : goal.slice_bounds-result-end
-slice_bounds-result-end c = let s = c in sym (length-take-le s.args.n s.args.q.now (omega arith))

@@ -1,8 +1,0 @@
-use Prim.Native.Nat.{◌-◌, ◌≤◌}
-use Rattle.room_calls.proofs.are_records.Given as goal
-
-abbrev pub invariant-loop-i : goal.invariant-loop-i
-invariant-loop-i l = l.i ≤ 257
-
-abbrev pub decreases-loop-i : goal.decreases-loop-i
-decreases-loop-i l = 257 - l.i

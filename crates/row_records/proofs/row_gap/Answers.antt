@@ -1,6 +1,0 @@
-use Rattle.row_records.proofs.row_gap.Goals as goal
-
-pub returns-in-Record : goal.returns-in-Record
-returns-in-Record c =
-    let t1 = c.in-Record.is in
-    simp (t1)

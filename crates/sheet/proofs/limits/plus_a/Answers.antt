@@ -1,5 +1,0 @@
-use Rattle.sheet.proofs.limits.plus_a.Goals as goal
-
-pub returns : goal.returns
-returns c =
-    simp c.more_side-s.ensures

@@ -1,6 +1,0 @@
-use Rattle.silhouette.proofs.axis.Goals as goal
-
-pub returns-in-Revolved : goal.returns-in-Revolved
-returns-in-Revolved c =
-    let t1 = c.in-Revolved.is in
-    simp (t1, c.plain_zero.ensures)

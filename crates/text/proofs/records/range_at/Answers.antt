@@ -1,5 +1,0 @@
-use Rattle.text.proofs.records.range_at.Goals as goal
-
-pub returns : goal.returns
-returns c =
-    simp (c.number_at-3.ensures, c.number_at-2.ensures, c.number_at.ensures)
