@@ -1,7 +1,7 @@
 // How side A of a pair bears on side B (contact/bearing.rs: `bearing`).
 #![tactic(auto)]
 
-ghost use Rattle.std.specs.Prelude.{◌≡◌, cond, map, ◌<◌, ◌≤◌, length, take};
+ghost use Rattle.std.specs.Prelude.{◌≡◌, map, ◌<◌, ◌≤◌, length, take};
 ghost use Rattle.std.proofs.lemmas.List.Edits.{sets};
 ghost use Rattle.laws.specs.Lists.{any};
 ghost use Rattle.mechanism.specs.Piece.{same_piece};
@@ -143,18 +143,12 @@ fn facing(place: Placement, normal: Point, f: Face) -> f64
     dot(n, normal)
 }
 
-fn other(t: bool, e: Point, s: Point) -> Point
-    ensures { result ≡ cond t e s }
-{
-    if t { e } else { s }
-}
-
 fn reach(place: Placement, corner: Point, toward: Point, f: Face) -> f64
     ensures { result ≡ reach_of place corner toward f }
 {
     let s = place.world(f.a);
     let e = place.world(f.b);
-    let far = other(same_point(s, corner), e, s);
+    let far = if same_point(s, corner) { e } else { s };
     let run = sub(far, corner);
     let way = sub(toward, corner);
     dot(way, run) / root(dot(run, run))
@@ -219,8 +213,10 @@ fn slope_along(s: Point, k: Point) -> Option<f64>
 fn turned_along(s: Point, k: Point) -> Point
     ensures { result ≡ alongside s k }
 {
-    let back = Point { x: -k.x, y: -k.y };
-    other(dot(k, s) < 0.0, back, k)
+    if dot(k, s) < 0.0 {
+        return Point { x: -k.x, y: -k.y };
+    }
+    k
 }
 
 // The slope of the key's face over the stop's.

@@ -7,12 +7,12 @@ ghost use Rattle.mechanism.specs.Check.{FewParts, pair_drawn};
 ghost use Rattle.material.specs.Material.{material_of};
 ghost use Rattle.drawing.specs.Drawing.{side_material};
 ghost use Rattle.proximities.specs.Proximities.{read_ab, read_ba, read_discs, read_center, each, Written};
-ghost use Rattle.candidates.specs.Candidates.{place_face, place_disc, faces_in, discs_in, faces_at, discs_at, disc_deep, any_deep, center_deep, no_material, placed_candidates, FewPlaced, pair_candidates, candidate_room};
+ghost use Rattle.candidates.specs.Candidates.{place_face, place_disc, faces_in, discs_in, faces_at, discs_at, disc_deep, any_deep, no_material, placed_candidates, FewPlaced, pair_candidates, candidate_room};
 
 use bodies::pose::{Placement, Pose, placement_at};
 use drawing::{Polygons, draw, side_chosen};
 use geometry::Point;
-use geometry::signed::Disc;
+use geometry::signed::{Disc, center_on_face, disc_on_disc, disc_on_face};
 use material::Spot;
 use mechanism::check::pair_drawn;
 use mechanism::features::Piece;
@@ -156,7 +156,7 @@ fn disc_on_discs(
 {
     let mut to = at;
     for e in &b.disc[..b.discs] {
-        let found = geometry::signed::disc_on_disc(d.disc, e.disc);
+        let found = disc_on_disc(d.disc, e.disc);
         to = put_candidate(near, named, to, d.piece, e.piece, 0, found);
     }
     to
@@ -211,9 +211,7 @@ fn disc_deep(d: Disc, t: SideFeatures) -> bool
     ensures { result ≡ disc_deep (faces_in t) d }
 {
     let faces = &t.face[..t.faces];
-    faces
-        .iter()
-        .any(|f| found_deep(geometry::signed::disc_on_face(d, f.face)))
+    faces.iter().any(|f| found_deep(disc_on_face(d, f.face)))
 }
 
 // Whether one of a side's discs reads deep on one of the other side's faces.
@@ -222,15 +220,6 @@ fn any_deep(s: SideFeatures, t: SideFeatures) -> bool
     ensures { result ≡ any_deep (discs_in s) (faces_in t) }
 {
     s.disc[..s.discs].iter().any(|d| disc_deep(d.disc, t))
-}
-
-// Whether a centre reads deep on one of a side's faces.
-fn center_deep(c: Point, t: SideFeatures) -> bool
-    requires { t.faces ≤ 12 }
-    ensures { result ≡ center_deep (faces_in t) c }
-{
-    let faces = &t.face[..t.faces];
-    faces.iter().any(|f| found_deep(geometry::signed::center_on_face(c, f.face)))
 }
 
 // ---- the candidates of a pair
@@ -403,7 +392,8 @@ fn center_candidates(
     requires { FewParts ps × (a.faces ≤ 12) × (784 ≤ length near.old) × (784 ≤ length named.old) }
     ensures { Written (flat (read_center (side_material ps o q u false) piece c) (faces_in a)) 0 result near.old near.new named.old named.new }
 {
-    if center_deep(c, a) {
+    let faces = &a.face[..a.faces];
+    if faces.iter().any(|f| found_deep(center_on_face(c, f.face))) {
         return deep_center(near, named, ps, o, q, u, piece, c, a);
     }
     plain_center(near, named, piece, c, a)

@@ -123,7 +123,13 @@ pub fn body_of_side(ps: Parts, u: Surface) -> usize
 pub fn what_is(solid: bool, cut: bool) -> u8
     ensures { result ≡ what_is solid cut }
 {
-    if solid { 1 } else { if cut { 2 } else { 0 } }
+    if solid {
+        1
+    } else if cut {
+        2
+    } else {
+        0
+    }
 }
 
 // The parts of a side's material; `cuts` says whether the cuts of its body are taken away.

@@ -1,38 +1,21 @@
 -- One face of side B against one of side A, and one of A against all of B, as the code comes to them step by step. Assumes nothing.
 use mathlib.Core.Path.{◌≡◌, sym, ap, ap₂, ◌∙◌}
-use mathlib.Core.Bool.{Bool, true, false, cond, ◌&&◌, ◌||◌}
+use mathlib.Core.Bool.{Bool, true, false, ◌&&◌, ◌||◌}
 use mathlib.Core.List.{List}
-use lib.Ieee.{Float, lt, le, is_nan}
+use lib.Ieee.{Float, lt, le}
 use Rattle.laws.specs.Lists.{foldl}
 use Rattle.laws.proofs.Choice.{cond_yes, cond_no}
 use Rattle.ieee.specs.Consts.{zero_f, one_f}
 use Rattle.ieee.specs.Num.{max_of, min_of}
 use Rattle.ieee.specs.Operators.{◌⊖◌, ◌⊘◌}
-use Rattle.ieee.proofs.MinRoot.{max_numbers, max_number, not_zero}
+use Rattle.ieee.proofs.MinRoot.{not_zero}
 use Rattle.geometry.specs.Geometry.{vector_of}
 use Rattle.geometry.specs.Signed.{sub_of, dot_of}
 use Rattle.geometry.specs.declared.Point.{Point}
 use Rattle.geometry.specs.declared.signed.Face.{Face}
 use Rattle.bodies.specs.Pose.{rotate_of, world_of}
 use Rattle.bodies.specs.declared.pose.Placement.{Placement}
-use Rattle.faces.specs.Faces.{along_of, reach_of, within_of, cut_of, over_of, past_of, is_long, step_of}
-
--- the part of B's face from lo to hi: d is the deepest so far, no NaN, and stays none
-module _ (a0 n b0 b1 : Point) (lo hi d : Float) (k : is_nan d ≡ false) where
-  -- there is no such part
-  pub within_left : lt hi lo ≡ true → (d ≡ within_of a0 n b0 b1 d lo hi) × (is_nan d ≡ false)
-  unfolding within_of
-  within_left h = (sym (cond_yes _ _ h), k)
-
-  -- x and y are how far its ends stand past A's line, f the deeper of d and x
-  pub within_taken : {x f y r : Float} → lt hi lo ≡ false → x ≡ reach_of a0 n b0 b1 lo → f ≡ cond (lt d x) x d → y ≡ reach_of a0 n b0 b1 hi → r ≡ cond (lt f y) y f
-      → (r ≡ within_of a0 n b0 b1 d lo hi) × (is_nan r ≡ false)
-  unfolding within_of
-  within_taken {x} {f} {y} {r} h e g u v =
-      let p : f ≡ max_of d (reach_of a0 n b0 b1 lo) = g ∙ sym (max_numbers d x k) ∙ ap (max_of d) e in
-      let z : is_nan f ≡ false = ap is_nan p ∙ max_number d (reach_of a0 n b0 b1 lo) k in
-      let w : r ≡ max_of f y = v ∙ sym (max_numbers f y z) in
-      (w ∙ ap₂ max_of p u ∙ sym (cond_no _ _ h), ap is_nan w ∙ max_number f y z)
+use Rattle.faces.specs.Faces.{along_of, within_of, cut_of, over_of, past_of, is_long, step_of}
 
 -- one face of B: t0 and t1 are where its ends fall along A's face
 module _ (a0 a1 n b0 b1 : Point) (d : Float) {t0 t1 : Float} (p : t0 ≡ along_of b0 a0 a1) (q : t1 ≡ along_of b1 a0 a1) where

@@ -1,8 +1,7 @@
 // How far side B's drawn faces stand past side A's (contact/bearing.rs: `face_overlap`).
 #![tactic(auto)]
 
-ghost use Rattle.std.specs.Prelude.{◌≡◌, false, ◌<◌, ◌≤◌, take};
-ghost use Rattle.std.specs.Float.Ieee.{is_nan};
+ghost use Rattle.std.specs.Prelude.{◌≡◌, ◌<◌, ◌≤◌, take};
 ghost use Rattle.laws.specs.Lists.{foldl};
 ghost use Rattle.mechanism.specs.Description.{pair_at};
 ghost use Rattle.faces.specs.Faces.{along_of, reach_of, within_of, over_of, past_of, is_long, faces_in, faces_overlap, sides_overlap, face_overlap_answer};
@@ -13,7 +12,7 @@ use bodies::Problem;
 use bodies::pose::{Placement, Pose, placement_at};
 use geometry::Point;
 use geometry::signed::{dot, sub};
-use ieee::num::{choose, is_nan, max, min};
+use ieee::num::{is_nan, max, min};
 use mechanism::check::call_checked;
 use mechanism::pair::ContactPair;
 use mechanism::{Mechanism, Pairs};
@@ -39,25 +38,21 @@ fn reach(a0: Point, n: Point, b0: Point, b1: Point, s: f64) -> f64
 }
 
 // The deepest of `deepest` and the two ends lo and hi, where they are in order.
-#[tactic(auto, using(crate::proofs::Steps::within_left))]
+#[tactic(auto, unfolding(crate::specs::Faces::within_of))]
 fn within(a0: Point, n: Point, b0: Point, b1: Point, lo: f64, hi: f64, deepest: f64) -> f64
-    requires { is_nan deepest ≡ false }
-    ensures { (result ≡ within_of a0 n b0 b1 deepest lo hi) × (is_nan result ≡ false) }
+    ensures { result ≡ within_of a0 n b0 b1 deepest lo hi }
 {
     if hi < lo {
         return deepest;
     }
-    let x = reach(a0, n, b0, b1, lo);
-    let first = choose(deepest < x, x, deepest);
-    let y = reach(a0, n, b0, b1, hi);
-    choose(first < y, y, first)
+    let first = max(deepest, reach(a0, n, b0, b1, lo));
+    max(first, reach(a0, n, b0, b1, hi))
 }
 
 // One face of B against A's face from a0 to a1.
 #[tactic(auto, using(crate::proofs::Steps::over_part, crate::proofs::Steps::over_whole, crate::proofs::Steps::over_none))]
 fn over(a0: Point, a1: Point, n: Point, b0: Point, b1: Point, deepest: f64) -> f64
-    requires { is_nan deepest ≡ false }
-    ensures { (result ≡ over_of a0 a1 n b0 b1 deepest) × (is_nan result ≡ false) }
+    ensures { result ≡ over_of a0 a1 n b0 b1 deepest }
 {
     let t0 = along(b0, a0, a1);
     let t1 = along(b1, a0, a1);
@@ -84,8 +79,7 @@ fn faces(s: SideFeatures) -> usize
 
 // All faces of B, placed, against A's face from a0 to a1.
 fn past(a0: Point, a1: Point, n: Point, b: SideFeatures, place: Placement, deepest: f64) -> f64
-    requires { is_nan deepest ≡ false }
-    ensures { (result ≡ foldl (past_of a0 a1 n place) deepest (faces_in b)) × (is_nan result ≡ false) }
+    ensures { result ≡ foldl (past_of a0 a1 n place) deepest (faces_in b) }
 {
     let mut d = deepest;
     for i in 0..faces(b) {

@@ -1,6 +1,5 @@
 // How far side B's drawn faces stand past side A's, over a prepared description.
-ghost use Rattle.std.specs.Prelude.{◌≡◌, false, ◌≤◌};
-ghost use Rattle.std.specs.Float.Ieee.{is_nan};
+ghost use Rattle.std.specs.Prelude.{◌≡◌, ◌≤◌};
 ghost use Rattle.laws.specs.Lists.{list_in, foldl};
 ghost use Rattle.strips.specs.Strips.{face_at};
 ghost use Rattle.faces.specs.Faces.{past_of, faces_overlap};
@@ -23,8 +22,8 @@ fn past(
     place: Placement,
     deepest: f64,
 ) -> f64
-    requires { (is_nan deepest ≡ false) × (first ≤ 65535) × (n ≤ 12) }
-    ensures { (result ≡ foldl (past_of a0 a1 normal place) deepest (list_in (face_at faces.now) n first)) × (is_nan result ≡ false) }
+    requires { (first ≤ 65535) × (n ≤ 12) }
+    ensures { result ≡ foldl (past_of a0 a1 normal place) deepest (list_in (face_at faces.now) n first) }
 {
     let mut d = deepest;
     for i in 0..n {

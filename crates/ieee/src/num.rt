@@ -1,16 +1,10 @@
 // Rust's small functions on f64.
-ghost use Rattle.std.specs.Prelude.{◌≡◌, cond};
+ghost use Rattle.std.specs.Prelude.{◌≡◌};
 ghost use Rattle.std.specs.Float.Ieee.{is_nan};
 ghost use Rattle.ieee.specs.Consts.{infinity_f};
 ghost use Rattle.ieee.specs.Num.{finite, abs_of, plain_zero, max_of, min_of, clamp_of, same_of};
 
 use crate::bits::pattern;
-
-pub fn choose(t: bool, a: f64, b: f64) -> f64
-    ensures { result ≡ cond t a b }
-{
-    if t { a } else { b }
-}
 
 #[tactic(auto, using(crate::proofs::Values::nan_test))]
 pub fn is_nan(x: f64) -> bool

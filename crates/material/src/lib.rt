@@ -10,7 +10,7 @@ ghost use Rattle.material.specs.Material.{cross_of, inside_of, holds_of, square_
 ghost use Rattle.material.specs.Range.{low_of, high_of, range_of, outside_of};
 
 use geometry::Point;
-use ieee::num::{choose, clamp, infinity, max};
+use ieee::num::{clamp, infinity, max};
 use ieee::root::root;
 
 // A point by its two coordinates.
@@ -116,11 +116,11 @@ fn square(a: Point, b: Point, p: Point) -> f64
     let ex = b.x - a.x;
     let ey = b.y - a.y;
     let e2 = ex * ex + ey * ey;
-    let t = choose(
-        0.0 < e2,
-        clamp(((p.x - a.x) * ex + (p.y - a.y) * ey) / e2),
-        0.0,
-    );
+    let t = if 0.0 < e2 {
+        clamp(((p.x - a.x) * ex + (p.y - a.y) * ey) / e2)
+    } else {
+        0.0
+    };
     let dx = p.x - a.x - t * ex;
     let dy = p.y - a.y - t * ey;
     dx * dx + dy * dy
@@ -139,7 +139,9 @@ fn least_of(poly: &[Spot], p: Point, from: f64, enough: f64) -> f64
         let a = Point { x: u[0], y: u[1] };
         let b = Point { x: v[0], y: v[1] };
         let q = square(a, b, p);
-        best = choose(q < best, q, best);
+        if q < best {
+            best = q;
+        }
         if best <= enough {
             return best;
         }
@@ -205,13 +207,19 @@ pub struct Range {
 fn low(lo: f64, y: f64) -> f64
     ensures { result ≡ low_of lo y }
 {
-    choose(lo <= y, lo, choose(y < lo, y, 0.0 / 0.0))
+    if lo <= y {
+        lo
+    } else if y < lo {
+        y
+    } else {
+        0.0 / 0.0
+    }
 }
 
 fn high(hi: f64, y: f64) -> f64
     ensures { result ≡ high_of hi y }
 {
-    choose(hi < y, y, hi)
+    if hi < y { y } else { hi }
 }
 
 // The range of the points' ordinates.

@@ -1,7 +1,7 @@
 // How deep parts stand in one another (contact/rows.rs: `sunk`, `overlap`, `pair_overlap`, `parts_overlap`).
 #![tactic(auto)]
 
-ghost use Rattle.std.specs.Prelude.{◌≡◌, true, ◌&&◌, map, ◌+◌, ◌*◌, ◌<◌, ◌≤◌, eqb, ltb, length};
+ghost use Rattle.std.specs.Prelude.{◌≡◌, ℕ, Bool, true, ◌&&◌, map, ◌+◌, ◌*◌, ◌<◌, ◌≤◌, eqb, ltb, length, take};
 ghost use Rattle.std.specs.List.{list_all};
 ghost use Rattle.laws.specs.Lists.{list_in, flat};
 ghost use Rattle.laws.specs.Loops.{any_in, fold_in};
@@ -16,7 +16,7 @@ ghost use Rattle.material.specs.Material.{points_of, material_of, depth_of, deep
 ghost use Rattle.material.specs.Range.{range_of};
 ghost use Rattle.drawing.specs.Drawing.{is_sampled, is_read_cut, what_is, chosen_material};
 ghost use Rattle.drawing.specs.Samples.{mouths_in, samples_of};
-ghost use Rattle.overlap.specs.Overlap.{sunk_by, sunk_of, owner_in, features_overlap, center_overlap, pair_overlap, pair_overlap_at, is_in, all_parts, pair_overlap_answer, overlap_answer, parts_overlap, parts_overlap_answer, owner_at, as_owners};
+ghost use Rattle.overlap.specs.Overlap.{sunk_by, sunk_of, features_overlap, center_overlap, pair_overlap, pair_overlap_at, is_in, all_parts, pair_overlap_answer, overlap_answer, parts_overlap, parts_overlap_answer, owner_at, as_owners};
 
 pub mod prepared;
 
@@ -175,12 +175,14 @@ fn sunk_both(
 
 // ---- pair_overlap
 
-fn side_owners(ps: Parts, u: Surface) -> Owners
-    ensures { result ≡ as_owners (owner_in ps u) }
+// The parts that `names` holds of and that are sampled.
+fn owners_of<F: Fn(usize) -> bool>(ps: Parts, names: F) -> Owners
+    requires { (i : _) → F.pre names i }
+    ensures { (p : ℕ → Bool) → ((i : ℕ) (r : Bool) → i < 32 → F.post names i r → r ≡ p i) → result ≡ as_owners (λ i. p i && is_sampled (part_at ps i)) }
 {
     let mut is = [false; 32];
     for i in 0..32 {
-        is[i] = is_own(u, i) & is_sampled(ps.part[i]);
+        is[i] = names(i) & is_sampled(ps.part[i]);
     }
     Owners { is }
 }
@@ -203,21 +205,19 @@ fn features_overlap(
         ps,
         segs,
         q,
-        side_owners(ps, a),
+        owners_of(ps, |i| is_own(a, i)),
         side_chosen(ps, a, true),
-        side_owners(ps, b),
+        owners_of(ps, |i| is_own(b, i)),
         side_chosen(ps, b, true),
     );
     max(max(0.0, s.into), s.back)
 }
 
-// The depth of a point inside the material of the chosen parts, drawn into lent points.
-fn depth_in(points: &mut [Spot], ps: Parts, segs: &[SegRow], q: Pose, c: Chosen, p: Point) -> f64
-    requires { FewParts ps × (start_of_part ps ps.count ≤ length segs.now) × (16 * start_of_part ps ps.count ≤ length points.old) }
-    ensures { result ≡ depth_of (chosen_material ps (outlines_in segs.now) q c) p }
+// The depth of a point inside the material of the drawn polygons, at the front of lent arrays.
+fn depth_drawn(points: &[Spot], starts: &[usize], n: Polygons, p: Point) -> f64
+    requires { (n.points ≤ length points.now) × (n.all + 1 ≤ length starts.now) }
+    ensures { result ≡ depth_of (material_of (take n.points points.now) (take (n.all + 1) starts.now) n.solids n.all) p }
 {
-    let mut starts = [0usize; 33];
-    let n = draw_from(points, &mut starts, ps, segs, q, c);
     depth(
         &points[..n.points],
         &starts[..n.all + 1],
@@ -240,14 +240,9 @@ fn center_overlap(
 {
     let c = center_of(ps, segs, b, true);
     let place = placement_at(q, c.body);
-    depth_in(
-        points,
-        ps,
-        segs,
-        q,
-        side_chosen(ps, a, false),
-        place.world(c.at),
-    )
+    let mut starts = [0usize; 33];
+    let n = draw_from(points, &mut starts, ps, segs, q, side_chosen(ps, a, false));
+    depth_drawn(points, &starts, n, place.world(c.at))
 }
 
 fn overlap_of_drawn(
@@ -404,17 +399,6 @@ fn is_in(l: &[usize], i: usize) -> bool
     l.contains(&i)
 }
 
-// The listed parts that are sampled.
-fn list_owners(ps: Parts, l: &[usize]) -> Owners
-    ensures { result ≡ as_owners (λ i. is_in l.now i && is_sampled (part_at ps i)) }
-{
-    let mut is = [false; 32];
-    for i in 0..32 {
-        is[i] = is_in(l, i) & is_sampled(ps.part[i]);
-    }
-    Owners { is }
-}
-
 // Whether one of the owners lies on a body.
 fn any_on(ps: Parts, w: Owners, body: usize) -> bool
     requires { FewParts ps }
@@ -446,8 +430,8 @@ fn overlap_of_parts(ps: Parts, o: Outlines, q: Pose, a: &[usize], b: &[usize]) -
     requires { FewParts ps × (all_parts ps a.now ≡ true) × (all_parts ps b.now ≡ true) }
     ensures { result ≡ parts_overlap ps o q a.now b.now }
 {
-    let wa = list_owners(ps, a);
-    let wb = list_owners(ps, b);
+    let wa = owners_of(ps, |i| is_in(a, i));
+    let wb = owners_of(ps, |i| is_in(b, i));
     let mut segs = [[0.0; 8]; 384];
     let mut points = [[0.0; 2]; 6144];
     let mut mouths = [[0.0; 4]; 768];

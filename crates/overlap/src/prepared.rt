@@ -3,22 +3,22 @@ ghost use Rattle.std.specs.Prelude.{◌≡◌, map, ◌≤◌, length};
 ghost use Rattle.laws.specs.Lists.{list_in};
 ghost use Rattle.ieee.specs.Consts.{zero_f};
 ghost use Rattle.ieee.specs.Num.{max_of};
-ghost use Rattle.material.specs.Material.{material_of, depth_of, deepest_square};
+ghost use Rattle.material.specs.Material.{material_of, deepest_square};
 ghost use Rattle.material.specs.Range.{range_of};
 ghost use Rattle.bodies.specs.Pose.{world_of};
 ghost use Rattle.strips.specs.Strips.{point_at, row_of_material, row_of_sampled};
 ghost use Rattle.drawing.specs.Prepared.{all_drawn, choice_at, material_in};
 ghost use Rattle.overlap.specs.Prepared.{sunk_in, pair_overlap_in, ask_checked, pair_overlap_answer_in};
 
+use crate::depth_drawn;
 use bodies::check::bodies_stand;
 use bodies::pose::{Placement, Pose, placement_at};
 use bodies::{Bodies, Problem};
 use drawing::prepared::{all_drawn, choice_at, draw_in, part_count};
 use drawing::{Chosen, Polygons};
-use geometry::Point;
 use ieee::num::max;
 use ieee::root::root;
-use material::{Range, Spot, deeper_square, depth, y_range};
+use material::{Range, Spot, deeper_square, y_range};
 use mechanism::check::then_called;
 use strips::{
     ChoiceRow, PartFacts, PartRow, PointRow, SideFacts, SideRow, part_at, point_at, row_a, row_b,
@@ -107,29 +107,6 @@ fn sunk_by(
     )
 }
 
-// How deep a point stands inside the material of the parts that c chooses.
-fn depth_by(
-    points: &mut [Spot],
-    drawn: &[PointRow],
-    parts: &[PartRow],
-    q: Pose,
-    c: Chosen,
-    p: Point,
-) -> f64
-    requires { all_drawn parts.now ≤ length points.old }
-    ensures { result ≡ depth_of (material_in drawn.now parts.now q c) p }
-{
-    let mut starts = [0usize; 33];
-    let n = draw_in(points, &mut starts, drawn, parts, q, c);
-    depth(
-        &points[..n.points],
-        &starts[..n.all + 1],
-        n.solids,
-        n.all,
-        p,
-    )
-}
-
 // Both sides of a pair, each in the other's material.
 fn sunk_both(
     points: &mut [Spot],
@@ -188,14 +165,10 @@ fn overlap_by(
     }
     let t = side_at(sides, b);
     let place = placement_at(q, t.body);
-    depth_by(
-        points,
-        drawn,
-        parts,
-        q,
-        choice_at(choices, row_of_material(a)),
-        place.world(point_at(centers, b)),
-    )
+    let c = choice_at(choices, row_of_material(a));
+    let mut starts = [0usize; 33];
+    let n = draw_in(points, &mut starts, drawn, parts, q, c);
+    depth_drawn(points, &starts, n, place.world(point_at(centers, b)))
 }
 
 // The same with room for N drawn points of its own.

@@ -18,21 +18,15 @@ use mechanism::rows::{Place, Value};
 
 // ---- hiding
 
-fn pick(t: bool, a: usize, b: usize) -> usize
-    ensures { result ≡ cond t a b }
-{
-    if t { a } else { b }
-}
-
 // Whether two candidates have one deciding piece: both have one, and its letter, part and segment agree.
 fn are_alike(x: Place, y: Place) -> bool
     ensures { result ≡ alike_rows x y }
 {
     let s = x[6] == 1;
     let t = y[6] == 1;
-    let letters = pick(s, x[0], x[3]) == pick(t, y[0], y[3]);
-    let parts = pick(s, x[1], x[4]) == pick(t, y[1], y[4]);
-    let segs = pick(s, x[2], x[5]) == pick(t, y[2], y[5]);
+    let letters = (if s { x[0] } else { x[3] }) == (if t { y[0] } else { y[3] });
+    let parts = (if s { x[1] } else { x[4] }) == (if t { y[1] } else { y[4] });
+    let segs = (if s { x[2] } else { x[5] }) == (if t { y[2] } else { y[5] });
     (x[6] != 0 && y[6] != 0) && letters && parts && segs
 }
 

@@ -5,7 +5,7 @@ ghost use Rattle.std.specs.Prelude.{◌≡◌, cond, [], map, ◌+◌, ◌*◌, 
 ghost use Rattle.std.proofs.lemmas.List.Edits.{sets};
 ghost use Rattle.std.specs.List.{list_any, range_with_len};
 ghost use Rattle.laws.specs.Lists.{list_in, flat};
-ghost use Rattle.geometry.specs.Signed.{disc_on_face, center_on_face};
+ghost use Rattle.geometry.specs.Signed.{disc_on_face};
 ghost use Rattle.material.specs.Material.{material_of};
 ghost use Rattle.drawing.specs.Prepared.{all_drawn, material_in, material_or};
 ghost use Rattle.strips.specs.Strips.{face_at, disc_at, face_row, disc_row, faces_from, discs_from, SmallSide};
@@ -17,7 +17,7 @@ use bodies::pose::{Placement, Pose, placement_at};
 use drawing::prepared::{all_drawn, choice_at, draw_in};
 use drawing::{Chosen, Polygons};
 use geometry::Point;
-use geometry::signed::Disc;
+use geometry::signed::{Disc, center_on_face, disc_on_disc, disc_on_face};
 use material::Spot;
 use mechanism::features::Piece;
 use mechanism::rows::{Place, Value};
@@ -184,7 +184,7 @@ fn disc_on_discs(
 {
     let mut to = at;
     for k in 0..n {
-        let found = geometry::signed::disc_on_disc(disc, disc_at(discs, k));
+        let found = disc_on_disc(disc, disc_at(discs, k));
         let other = piece_at(names, from + k);
         to = put_candidate(near, named, to, piece, other, 0, found);
     }
@@ -246,7 +246,7 @@ fn center_on_faces(
 fn disc_deep(d: Disc, faces: &[FaceRow], n: usize) -> bool
     ensures { result ≡ list_any (λ k. found_deep (disc_on_face d (face_at faces.now k))) (range_with_len 0 n) }
 {
-    (0..n).any(|k| found_deep(geometry::signed::disc_on_face(d, face_at(faces, k))))
+    (0..n).any(|k| found_deep(disc_on_face(d, face_at(faces, k))))
 }
 
 // Whether one of the first m discs reads deep on one of the first n faces.
@@ -254,13 +254,6 @@ fn any_deep(discs: &[DiscRow], m: usize, faces: &[FaceRow], n: usize) -> bool
     ensures { result ≡ list_any (λ i. list_any (λ k. found_deep (disc_on_face (disc_at discs.now i) (face_at faces.now k))) (range_with_len 0 n)) (range_with_len 0 m) }
 {
     (0..m).any(|i| disc_deep(disc_at(discs, i), faces, n))
-}
-
-// Whether a centre reads deep on one of the first n faces.
-fn center_deep(c: Point, faces: &[FaceRow], n: usize) -> bool
-    ensures { result ≡ list_any (λ k. found_deep (center_on_face c (face_at faces.now k))) (range_with_len 0 n) }
-{
-    (0..n).any(|k| found_deep(geometry::signed::center_on_face(c, face_at(faces, k))))
 }
 
 // ---- the candidates of two sides, placed
@@ -606,7 +599,7 @@ fn center_candidates(
     requires { SmallSide a × (a.faces ≤ length near.old) × (a.faces ≤ length named.old) }
     ensures { Written (flat (read_center (material_or drawn.now parts.now q ca) piece c) (faces_from faces.now 0 fnames.now a.face a.faces)) 0 result near.old near.new named.old named.new }
 {
-    if center_deep(c, faces, a.faces) {
+    if (0..a.faces).any(|k| found_deep(center_on_face(c, face_at(faces, k)))) {
         return deep_center(near, named, piece, c, faces, fnames, a, drawn, parts, q, ca);
     }
     plain_center(near, named, piece, c, faces, fnames, a)

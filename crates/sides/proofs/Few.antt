@@ -68,7 +68,7 @@ face-few : (p : Piece) (m : Option Face) → length (placed_face p m) ≤ 1
 face-few p None = omega arith
 face-few p (Some f) = omega arith
 
-pub disc_few : (p : Piece) (m : Option Disc) → length (placed_disc p m) ≤ 1
+disc_few : (p : Piece) (m : Option Disc) → length (placed_disc p m) ≤ 1
 disc_few p None = omega arith
 disc_few p (Some d) = omega arith
 

@@ -1,7 +1,8 @@
 // The features of a side, read from the drawn outlines in its body's frame (contact/features.rs).
 #![tactic(auto)]
 
-ghost use Rattle.std.specs.Prelude.{◌≡◌, cond, [], ◌++◌, map, reverse, ◌+◌, ◌-◌, ◌<◌, ◌≤◌, length, replicate};
+ghost use Rattle.std.specs.Prelude.{◌≡◌, ◌++◌, map, reverse, ◌+◌, ◌-◌, ◌<◌, ◌≤◌, length, replicate, option_to_list};
+ghost use Rattle.std.proofs.lemmas.List.Edits.{sets};
 ghost use Rattle.laws.specs.Fill.{range, filled};
 ghost use Rattle.laws.specs.Loops.{join_in};
 ghost use Rattle.geometry.specs.Geometry.{start_of};
@@ -216,33 +217,15 @@ fn traverse(range: SurfaceRef, sil: SilhouetteSegs, role: Role) -> Traversal
 
 // ---- one segment's features
 
-fn add_face(f: Features, piece: Piece, m: Option<Face>) -> Features
-    requires { f.faces < 12 }
-    ensures { Grown f result (placed_face piece m) [] }
+// One more behind the first n of a list, where there is one.
+fn add<T: Copy, const N: usize>(list: &mut [T; N], n: &mut usize, m: Option<T>)
+    requires { n.old < N }
+    ensures all { list.new ≡ sets list.old n.old (option_to_list m) }
+    ensures more { n.new ≡ n.old + length (option_to_list m) }
 {
-    match m {
-        Some(x) => {
-            let mut t = f;
-            t.face[t.faces] = PlacedFace { piece, face: x };
-            t.faces += 1;
-            t
-        }
-        None => f,
-    }
-}
-
-fn add_disc(f: Features, piece: Piece, m: Option<Disc>) -> Features
-    requires { f.discs < 28 }
-    ensures { Grown f result [] (placed_disc piece m) }
-{
-    match m {
-        Some(x) => {
-            let mut t = f;
-            t.disc[t.discs] = PlacedDisc { piece, disc: x };
-            t.discs += 1;
-            t
-        }
-        None => f,
+    if let Some(x) = m {
+        list[*n] = x;
+        *n += 1;
     }
 }
 
@@ -258,13 +241,26 @@ fn read_seg(
     requires { (f.faces < 12) × (f.discs + 2 ≤ 28) }
     ensures { Grown f result (placed_face (Piece.Segment part named) (face_of seg)) (placed_disc (Piece.Arc part named) (arc_of cut seg) ++ placed_disc (Piece.Vertex part starts) (corner_of previous seg)) }
 {
-    let g = add_face(f, Piece::Segment { part, seg: named }, face(seg));
-    let h = add_disc(g, Piece::Arc { part, seg: named }, arc(cut, seg));
-    add_disc(
-        h,
-        Piece::Vertex { part, seg: starts },
-        corner(previous, seg),
-    )
+    let mut g = f;
+    let piece = Piece::Segment { part, seg: named };
+    add(
+        &mut g.face,
+        &mut g.faces,
+        face(seg).map(|face| PlacedFace { piece, face }),
+    );
+    let piece = Piece::Arc { part, seg: named };
+    add(
+        &mut g.disc,
+        &mut g.discs,
+        arc(cut, seg).map(|disc| PlacedDisc { piece, disc }),
+    );
+    let piece = Piece::Vertex { part, seg: starts };
+    add(
+        &mut g.disc,
+        &mut g.discs,
+        corner(previous, seg).map(|disc| PlacedDisc { piece, disc }),
+    );
+    g
 }
 
 fn read_step(f: Features, part: usize, cut: bool, previous: Option<Seg>, s: Step) -> Features
@@ -302,12 +298,6 @@ fn meet(last: Option<Seg>, next: Option<Seg>) -> bool
     }
 }
 
-fn choose_seg(t: bool, a: Option<Seg>, b: Option<Seg>) -> Option<Seg>
-    ensures { result ≡ cond t a b }
-{
-    if t { a } else { b }
-}
-
 fn previous_at(t: Traversal, first: Option<Seg>, i: usize) -> Option<Seg>
     requires { (i < t.count) × (t.count ≤ 12) }
     ensures { result ≡ previous_at (run_of t) first i }
@@ -342,16 +332,22 @@ fn read_range(f: Features, t: Traversal, last: Option<Seg>, next: Option<Seg>) -
     requires { (0 < t.count) × (t.count ≤ 12) × (f.faces + t.count ≤ 12) × (f.faces + f.discs + t.count + t.count + 1 ≤ 28) }
     ensures { Grown f result (range_faces (run_of t)) (range_discs (run_of t) last next) }
 {
-    let joined = meet(last, first_seg(t));
-    let g = read_steps(f, t, choose_seg(joined, last, t.before));
-    add_disc(
-        g,
-        Piece::Vertex {
-            part: t.part,
-            seg: t.ends,
-        },
-        end_disc(t, next),
-    )
+    let first = if meet(last, first_seg(t)) {
+        last
+    } else {
+        t.before
+    };
+    let mut g = read_steps(f, t, first);
+    let piece = Piece::Vertex {
+        part: t.part,
+        seg: t.ends,
+    };
+    add(
+        &mut g.disc,
+        &mut g.discs,
+        end_disc(t, next).map(|disc| PlacedDisc { piece, disc }),
+    );
+    g
 }
 
 // ---- a side's features

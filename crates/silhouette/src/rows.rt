@@ -1,7 +1,7 @@
 // The silhouette of a part whose outline stands in lent rows, segment by segment.
-ghost use Rattle.std.specs.Prelude.{◌≡◌, cond, ◌+◌, ◌-◌, ◌<◌, ◌≤◌, length, get_or};
+ghost use Rattle.std.specs.Prelude.{◌≡◌, ◌+◌, ◌-◌, ◌<◌, ◌≤◌, length, get_or};
 ghost use Rattle.mechanism.specs.Segments.{outlines_in};
-ghost use Rattle.silhouette.specs.Silhouette.{start_in, end_in, no_line, chain_of, revolved_of, outline_from, silhouette_from, silhouette_count};
+ghost use Rattle.silhouette.specs.Silhouette.{no_line, chain_of, revolved_of, outline_from, silhouette_from, silhouette_count};
 
 use super::{about_axis, axis, end_in, no_line, reversed, start_in};
 use geometry::{Point, Seg};
@@ -24,18 +24,6 @@ fn left_of(segs: &[SegRow], first: usize, n: usize) -> usize
     n.min(segs.len() - first)
 }
 
-fn start_in_if(t: bool, s: Seg) -> Seg
-    ensures { result ≡ cond t (start_in s) s }
-{
-    if t { start_in(s) } else { s }
-}
-
-fn end_in_if(t: bool, s: Seg) -> Seg
-    ensures { result ≡ cond t (end_in s) s }
-{
-    if t { end_in(s) } else { s }
-}
-
 // Segment k of the n from row `first` on.
 fn plain_seg(segs: &[SegRow], first: usize, n: usize, k: usize) -> Seg
     requires { n ≤ length segs.now - first }
@@ -48,12 +36,14 @@ fn plain_seg(segs: &[SegRow], first: usize, n: usize, k: usize) -> Seg
 }
 
 // Segment k of their chain.
+#[tactic(auto, using(crate::proofs::BySegment::chain_here))]
 fn chain_seg(segs: &[SegRow], first: usize, n: usize, k: usize) -> Seg
     requires { (n ≤ length segs.now - first) × (k + 1 < n) }
     ensures { result ≡ get_or (chain_of (outline_from (outlines_in segs.now) first n)) k no_line }
 {
-    let s = start_in_if(k == 0, seg_at(segs, first + k));
-    end_in_if(k + 2 == n, s)
+    let s = seg_at(segs, first + k);
+    let t = if k == 0 { start_in(s) } else { s };
+    if k + 2 == n { end_in(t) } else { t }
 }
 
 // Segment k of the chain about the axis and its mirror.

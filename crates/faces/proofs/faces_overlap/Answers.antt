@@ -1,7 +1,7 @@
 use native.Mathlib.Omega.{arith}
 use mathlib.Core.Path.{◌≡◌, refl, sym, ap, ◌∙◌}
 use mathlib.Core.List.{List, map}
-use lib.Ieee.{is_nan, of_bits}
+use lib.Ieee.{of_bits}
 use lib.ListN.{get_or}
 use Rattle.laws.specs.Lists.{foldl}
 use Rattle.ieee.specs.Consts.{zero_f}
@@ -13,8 +13,8 @@ use Rattle.faces.proofs.faces_overlap.Goals as goal
 use Rattle.faces.proofs.faces_overlap.Goals.{then-is_long, else-is_long}
 
 pub loop-i-init : goal.loop-i-init
-unfolding is_nan of_bits
-loop-i-init c = record { number = refl; held = refl }
+unfolding of_bits
+loop-i-init c = refl
 
 pub loop-i-preserved : goal.loop-i-preserved
 loop-i-preserved c =
@@ -24,17 +24,11 @@ loop-i-preserved c =
     let f = face_of (get_or s.a.face c.loop-i.i unread) in
     let step = step_of s.pa s.pb (faces_in s.b) in
     let on : step c.loop-i.deepest f ≡ c.if-is_long.deepest → _ =
-    λ g. held_on step s.a.face c.faces-i-end.result c.loop-i.i (omega arith) c.loop-i-test.true g ∙ c.loop-i.invariant.held in
+    λ g. held_on step s.a.face c.faces-i-end.result c.loop-i.i (omega arith) c.loop-i-test.true g ∙ c.loop-i.invariant in
     elim c.if-is_long.branch [
-      | then-is_long w ↦ record {
-        number = ap is_nan w.deepest-is ∙ w.past-deepest.ensures.1;
-        held = on (step-taken s.pa s.pb (faces_in s.b) c.loop-i.deepest f c.world-a0.ensures c.world-a1.ensures c.sub-e.ensures c.dot.ensures c.is_long.ensures
-            w.if-is_long.true w.vector.ensures w.rotate.ensures (w.deepest-is ∙ w.past-deepest.ensures.0));
-      }
-      | else-is_long w ↦ record {
-        number = ap is_nan w.deepest-is ∙ c.loop-i.invariant.number;
-        held = on (step_left s.pa s.pb (faces_in s.b) c.loop-i.deepest f c.world-a0.ensures c.world-a1.ensures c.sub-e.ensures c.dot.ensures c.is_long.ensures w.if-is_long.false ∙ sym w.deepest-is);
-      }
+      | then-is_long w ↦ on (step-taken s.pa s.pb (faces_in s.b) c.loop-i.deepest f c.world-a0.ensures c.world-a1.ensures c.sub-e.ensures c.dot.ensures c.is_long.ensures
+          w.if-is_long.true w.vector.ensures w.rotate.ensures (w.deepest-is ∙ w.past-deepest.ensures))
+      | else-is_long w ↦ on (step_left s.pa s.pb (faces_in s.b) c.loop-i.deepest f c.world-a0.ensures c.world-a1.ensures c.sub-e.ensures c.dot.ensures c.is_long.ensures w.if-is_long.false ∙ sym w.deepest-is)
     ]
 
 pub returns : goal.returns
@@ -45,5 +39,5 @@ returns c =
     let k = c.faces-i-end.ensures.0 in
     let step = step_of s.pa s.pb (faces_in s.b) in
     sym (held-end step s.a.face c.faces-i-end.result c.loop-i.i (omega arith) c.loop-i.deepest c.loop-i-test.false)
-    ∙ c.loop-i.invariant.held
+    ∙ c.loop-i.invariant
     ∙ ap (λ (x : List PlacedFace). foldl step zero_f (map face_of x)) c.faces-i-end.ensures.1

@@ -1,6 +1,4 @@
 use mathlib.Core.Path.{◌≡◌}
-use mathlib.Core.Bool.{false}
-use lib.Ieee.{is_nan}
 use Rattle.laws.specs.Lists.{foldl}
 use Rattle.faces.specs.Faces.{past_of}
 use Rattle.faces.proofs.Held.{left}
@@ -9,4 +7,4 @@ use Rattle.faces.proofs.past.Given as goal
 abbrev pub invariant-loop-i : goal.invariant-loop-i
 invariant-loop-i l =
     let step = past_of l.a0 l.a1 l.n l.place in
-    record { number : is_nan l.d ≡ false; held : foldl step l.d (left l.i-end l.i l.b.face) ≡ foldl step l.deepest (left l.i-end 0 l.b.face) }
+    foldl step l.d (left l.i-end l.i l.b.face) ≡ foldl step l.deepest (left l.i-end 0 l.b.face)

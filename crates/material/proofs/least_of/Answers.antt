@@ -47,7 +47,7 @@ returns-then-best-enough c =
     let s = c.args in
     let w = c.wrap.ensures.0 in
     let q = c.square-q.ensures in
-    let n = c.choose-best.ensures in (
+    let n : c.if-q-best.best ≡ cond (lt c.square-q.result l.best) c.square-q.result l.best = grind (arith, c.if-q-best.branch) in (
       early s.poly.now s.p s.from l.best l.i (omega arith) l.invariant.0 l.invariant.1 w q n s.enough c.if-best-enough.true,
       next-number s.poly.now s.p s.from l.best l.i (omega arith) l.invariant.0 l.invariant.1 w q n,
     )
@@ -58,7 +58,7 @@ loop-i-preserved c =
     let s = c.args in
     let w = c.wrap.ensures.0 in
     let q = c.square-q.ensures in
-    let n = c.choose-best.ensures in (
+    let n : c.if-q-best.best ≡ cond (lt c.square-q.result l.best) c.square-q.result l.best = grind (arith, c.if-q-best.branch) in (
       next-number s.poly.now s.p s.from l.best l.i (omega arith) l.invariant.0 l.invariant.1 w q n,
       next-inv s.poly.now s.p s.from l.best l.i (omega arith) l.invariant.0 l.invariant.1 w q n,
     )

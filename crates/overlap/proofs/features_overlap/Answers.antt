@@ -1,4 +1,6 @@
 use mathlib.Core.Path.{ap, ap₂, ◌∙◌}
+use Rattle.std.proofs.Common.{rules, tests}
+use Rattle.drawing.specs.Drawing.{is_own}
 use Rattle.ieee.specs.Consts.{zero_f}
 use Rattle.ieee.specs.Num.{max_of}
 use Rattle.mechanism.specs.Segments.{outlines_in}
@@ -12,5 +14,5 @@ returns c =
     let both = c.sunk_both-s.ensures in
     c.max-2.ensures
     ∙ ap₂ max_of
-    (c.max.ensures ∙ ap (max_of zero_f) (sunk_side s.args.ps (outlines_in s.args.segs.now) s.args.q s.requires.0 (owner_in s.args.ps s.args.a) s.args.b both.0 c.side_owners.ensures c.side_chosen-2.ensures))
-    (sunk_side s.args.ps (outlines_in s.args.segs.now) s.args.q s.requires.0 (owner_in s.args.ps s.args.b) s.args.a both.1 c.side_owners-2.ensures c.side_chosen.ensures)
+    (c.max.ensures ∙ ap (max_of zero_f) (sunk_side s.args.ps (outlines_in s.args.segs.now) s.args.q s.requires.0 (owner_in s.args.ps s.args.a) s.args.b both.0 (c.owners_of.ensures (is_own s.args.a) (λ i r h k. search (rules, tests))) c.side_chosen-2.ensures))
+    (sunk_side s.args.ps (outlines_in s.args.segs.now) s.args.q s.requires.0 (owner_in s.args.ps s.args.b) s.args.a both.1 (c.owners_of-2.ensures (is_own s.args.b) (λ i r h k. search (rules, tests))) c.side_chosen.ensures)

@@ -1,10 +1,12 @@
 use native.Mathlib.Omega.{arith}
 use mathlib.Core.Path.{refl}
 use lib.ListN.{replicate}
+use Rattle.std.proofs.Common.{rules, tests}
 use Rattle.ieee.specs.Consts.{zero_f}
 use Rattle.mechanism.specs.Segments.{outlines_in}
 use Rattle.mechanism.proofs.Known.{outlines-long}
 use Rattle.drawing.proofs.Laid.{counted-few}
+use Rattle.overlap.specs.Overlap.{is_in}
 use Rattle.overlap.proofs.Pairwise.{sunk_parts, parts-both}
 use Rattle.overlap.proofs.Same.{put-asks, parts-put}
 use Rattle.overlap.proofs.overlap_of_parts.Goals as goal
@@ -26,7 +28,9 @@ returns c =
     let k = c.segs_counted.ensures in
     let o = outlines_in c.put_segs.new.out in
     let two = c.sunk_both-s.ensures in
+    let wa = c.owners_of-wa.ensures (is_in s.args.a.now) (λ i r h k. search (rules, tests)) in
+    let wb = c.owners_of-wb.ensures (is_in s.args.b.now) (λ i r h k. search (rules, tests)) in
     parts-put s.args.ps s.args.o (replicate 384 (replicate 8 zero_f)) (outlines-long s.args.o _ s.well_formed.1.0) k k.1 c.put_segs.ensures s.args.q s.args.a.now s.args.b.now
     (parts-both s.args.ps o s.args.q s.args.a.now s.args.b.now c.max.ensures
-    (sunk_parts s.args.ps o s.args.q s.requires.0 s.args.a.now s.args.b.now s.requires.1 s.requires.2 two.0 c.list_owners-wa.ensures c.owners_chosen-2.ensures c.list_owners-wb.ensures)
-    (sunk_parts s.args.ps o s.args.q s.requires.0 s.args.b.now s.args.a.now s.requires.2 s.requires.1 two.1 c.list_owners-wb.ensures c.owners_chosen.ensures c.list_owners-wa.ensures))
+    (sunk_parts s.args.ps o s.args.q s.requires.0 s.args.a.now s.args.b.now s.requires.1 s.requires.2 two.0 wa c.owners_chosen-2.ensures wb)
+    (sunk_parts s.args.ps o s.args.q s.requires.0 s.args.b.now s.args.a.now s.requires.2 s.requires.1 two.1 wb c.owners_chosen.ensures wa))

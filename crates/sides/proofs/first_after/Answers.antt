@@ -1,6 +1,5 @@
 use Prim.Native.Nat.{◌+◌}
 use native.Mathlib.Omega.{arith}
-use Rattle.sides.specs.Features as F
 use Rattle.sides.proofs.Sizes.{sized}
 use Rattle.sides.proofs.Known.{runs_long}
 use Rattle.sides.proofs.first_after.Goals as goal

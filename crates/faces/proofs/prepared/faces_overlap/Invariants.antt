@@ -1,7 +1,5 @@
 use Prim.Native.Nat.{ℕ, ◌+◌, ◌-◌}
 use mathlib.Core.Path.{◌≡◌}
-use mathlib.Core.Bool.{false}
-use lib.Ieee.{is_nan}
 use Rattle.laws.specs.Lists.{list_in, foldl}
 use Rattle.ieee.specs.Consts.{zero_f}
 use Rattle.strips.specs.Strips.{face_at}
@@ -12,4 +10,4 @@ abbrev pub invariant-loop-i : goal.invariant-loop-i
 invariant-loop-i l =
     let step = step_of l.pa l.pb (list_in (face_at l.faces) l.m l.b) in
     let face = λ (k : ℕ). face_at l.faces (l.a + k) in
-    record { number : is_nan l.deepest ≡ false; held : foldl step l.deepest (list_in face (l.n - l.i) l.i) ≡ foldl step zero_f (list_in face l.n 0) }
+    foldl step l.deepest (list_in face (l.n - l.i) l.i) ≡ foldl step zero_f (list_in face l.n 0)

@@ -1,7 +1,5 @@
 use Prim.Native.Nat.{ℕ, ◌+◌, ◌-◌}
 use mathlib.Core.Path.{◌≡◌}
-use mathlib.Core.Bool.{false}
-use lib.Ieee.{is_nan}
 use Rattle.laws.specs.Lists.{list_in, foldl}
 use Rattle.strips.specs.Strips.{face_at}
 use Rattle.faces.specs.Faces.{past_of}
@@ -11,4 +9,4 @@ abbrev pub invariant-loop-i : goal.invariant-loop-i
 invariant-loop-i l =
     let step = past_of l.a0 l.a1 l.normal l.place in
     let face = λ (k : ℕ). face_at l.faces (l.first + k) in
-    record { number : is_nan l.d ≡ false; held : foldl step l.d (list_in face (l.n - l.i) l.i) ≡ foldl step l.deepest (list_in face l.n 0) }
+    foldl step l.d (list_in face (l.n - l.i) l.i) ≡ foldl step l.deepest (list_in face l.n 0)
