@@ -27,8 +27,11 @@ pub fn read_full<R: Read>(input: &mut R, buf: &mut [u8]) -> io::Result<usize>
     Ok(done)
 }
 
-// The number that six decimal digits say, the low four bits of each byte; the seventh byte, which ends the line, says nothing.
-pub fn six_digits(d: [u8; 7]) -> usize
+// Six decimal digits and the byte that ends their line.
+pub type Digits = [u8; 7];
+
+// The number that six decimal digits say, the low four bits of each byte; the byte behind them says nothing.
+pub fn six_digits(d: Digits) -> usize
     ensures { result ≡ fold tens 0 (take 6 d) }
 {
     d[..6].iter().fold(0, |value, b| tens(value, *b))
