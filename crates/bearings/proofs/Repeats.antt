@@ -18,7 +18,7 @@ use Rattle.mechanism.specs.declared.rows.Row.{Row}
 use Rattle.sides.specs.Contacts.{pair_features}
 use Rattle.sides.specs.declared.SideFeatures.{SideFeatures}
 use Rattle.sides.specs.declared.contacts.PairFeatures.{PairFeatures}
-use Rattle.candidates.specs.Candidates.{faces_in, discs_in}
+use Rattle.sides.specs.Features.{faces_in, discs_in}
 use Rattle.governing.specs.Governing.{governing_of}
 use Rattle.bearings.specs.Bearing.{ends_of, first_of, face_named, stop_at, stop_under, corner_on, corner_bearing, edge_on, edge_bearing, bearing_of, governed_bearing, bearing_if, bearing_from}
 use Rattle.std.proofs.Common.{Option, Some, None, Ok, Err}

@@ -31,9 +31,8 @@ use Rattle.sides.specs.declared.PlacedFace.{PlacedFace}
 use Rattle.sides.specs.declared.SideFeatures.{SideFeatures}
 use Rattle.sides.specs.declared.contacts.PairFeatures.{PairFeatures}
 use Rattle.faces.specs.Faces.{along_of}
-use Rattle.candidates.specs.Candidates.{faces_in, discs_in}
+use Rattle.sides.specs.Features.{faces_in, discs_in}
 use Rattle.governing.specs.Governing.{governing_of}
-use Rattle.bearings.specs.declared.Aim.{Aim}
 use Rattle.bodies.specs.declared.Problem.{Problem}
 use Rattle.bodies.specs.Check.{Checked}
 use Rattle.geometry.specs.declared.Dir.{Dir}
@@ -84,9 +83,6 @@ reach_of place corner toward f =
     let e = world_of place f.b in
     let run = sub_of (cond (same_point s corner) e s) corner in
     dot_of (sub_of toward corner) run ⊘ root_of (dot_of run run)
-
-abbrev pub score_of : Aim → Face → Float
-score_of k f = cond k.reaching (reach_of k.place k.corner k.toward f) (facing_of k.place k.toward f)
 
 abbrev pub later_of : (Face → Float) → Option Face → Face → Option Face
 later_of score None g = Some g

@@ -1,2 +1,1 @@
 pub mod Bearing
-pub mod Prepared

@@ -1,21 +1,21 @@
 // How side A of a pair bears on side B (contact/bearing.rs: `bearing`).
 #![tactic(auto)]
 
-ghost use Rattle.std.specs.Prelude.{◌≡◌, map, ◌<◌, ◌≤◌, length, take};
+ghost use Rattle.std.specs.Prelude.{◌≡◌, Float, map, ◌≤◌, length, option_map};
+ghost use Rattle.std.specs.List.{list_any};
 ghost use Rattle.std.proofs.lemmas.List.Edits.{sets};
-ghost use Rattle.laws.specs.Lists.{any};
-ghost use Rattle.mechanism.specs.Piece.{same_piece};
-ghost use Rattle.mechanism.specs.Rows.{pair_in, gap_in};
-ghost use Rattle.candidates.specs.Candidates.{faces_in, discs_in};
-ghost use Rattle.governing.specs.Governing.{governing_of, records_in};
-ghost use Rattle.bearings.specs.Bearing.{at_end, meets_row, spot_of, ends_of, first_of, face_named, facing_of, reach_of, score_of, best_face, run_of, alongside, slope_along, slope_of, slope_between, spans, is_level, is_flat, bears_as, stop_at, stop_under, toward_of, key_at, corner_bearing, edge_on, edge_bearing, bearing_of, governed_bearing, row_at};
+ghost use Rattle.sides.specs.Features.{faces_in, discs_in};
+ghost use Rattle.governing.specs.Governing.{governing_in};
+ghost use Rattle.bearings.specs.Bearing.{at_end, meets_row, spot_of, ends_of, first_of, face_named, facing_of, reach_of, best_face};
+ghost use Rattle.bearings.specs.Bearing.{run_of, alongside, slope_along, slope_of, slope_between, spans, is_level, is_flat};
+ghost use Rattle.bearings.specs.Bearing.{bears_as, stop_at, stop_under, toward_of, key_at, corner_bearing, edge_on, edge_bearing, bearing_of, governed_bearing, row_at};
 
 pub mod prepared;
 
 use bodies::Problem;
 use bodies::pose::{Placement, Pose, placement_at};
 use faces::along;
-use geometry::signed::{Disc, Face, cross, dot, sub};
+use geometry::signed::{Face, cross, dot, sub};
 use geometry::{Dir, Point, on_circle};
 use governing::governing_in;
 use ieee::num::abs;
@@ -24,30 +24,22 @@ use ieee::root::root;
 use material::Spot;
 use mechanism::bearing::{Bearing, HowItBears};
 use mechanism::check::same_point;
-use mechanism::features::{Feature, Piece, letter, part, seg};
-use mechanism::rows::{Place, Row, Value, row_from};
+use mechanism::features::{Piece, letter};
+use mechanism::rows::{ReadRows, Row};
 use sides::contacts::PairFeatures;
-use sides::{PlacedDisc, PlacedFace, SideFeatures};
+use sides::held::Side;
 
 // FLAT_WITHIN: how far the far edge of a stop's face may stand off for the faces to count as bedded flat, in metres.
 pub const FLAT_WITHIN: f64 = 2.5e-6;
 
-// What faces are scored by: how far they run from a corner toward a point, or how they face along a direction.
+// A face with its score.
 #[derive(Clone, Copy)]
-pub struct Aim {
-    pub reaching: bool,
-    pub place: Placement,
-    pub corner: Point,
-    pub toward: Point,
+struct Scored {
+    face: Face,
+    score: f64,
 }
 
 // ---- the ends of a piece, and the faces that meet it
-
-fn same_piece(p: Piece, r: Piece) -> bool
-    ensures { result ≡ same_piece p r }
-{
-    (letter(p) == letter(r)) & ((part(p) == part(r)) & (seg(p) == seg(r)))
-}
 
 fn at_end(f: Face, e: Point) -> bool
     ensures { result ≡ at_end f e }
@@ -55,30 +47,15 @@ fn at_end(f: Face, e: Point) -> bool
     same_point(e, f.a) | same_point(e, f.b)
 }
 
-// How many discs an array of twenty-eight holds.
-fn discs(s: SideFeatures) -> usize
-    ensures { (result ≤ 28) × (take result s.disc ≡ discs_in s) }
-{
-    if s.discs < 28 { s.discs } else { 28 }
-}
-
-// How many faces an array of twelve holds.
-fn faces(s: SideFeatures) -> usize
-    ensures { (result ≤ 12) × (take result s.face ≡ faces_in s) }
-{
-    if s.faces < 12 { s.faces } else { 12 }
-}
-
 // Writes the two ends of every disc with the piece.
-fn put_ends(ends: &mut [Spot], s: SideFeatures, piece: Piece) -> usize
+fn put_ends<S: Side>(ends: &mut [Spot], s: &S, piece: Piece) -> usize
     requires { 56 ≤ length ends.old }
-    ensures { (result ≡ length (ends_of piece (discs_in s))) × (result ≤ 56) × (ends.new ≡ sets ends.old 0 (map spot_of (ends_of piece (discs_in s)))) }
+    ensures { (result ≡ length (ends_of piece (discs_in (S.features s.now)))) × (result ≤ 56) × (ends.new ≡ sets ends.old 0 (map spot_of (ends_of piece (discs_in (S.features s.now))))) }
 {
-    let m = discs(s);
     let mut at: usize = 0;
-    for i in 0..m {
-        let p = s.disc[i];
-        if same_piece(p.piece, piece) {
+    for i in 0..s.discs() {
+        let p = s.disc(i);
+        if p.piece == piece {
             let d = p.disc;
             let a = on_circle(d.center, d.radius, d.from);
             let b = on_circle(d.center, d.radius, d.to);
@@ -90,28 +67,20 @@ fn put_ends(ends: &mut [Spot], s: SideFeatures, piece: Piece) -> usize
     at
 }
 
-// Whether one of the first n ends is one of the face's.
-fn meets_any(ends: &[Spot], n: usize, f: Face) -> bool
-    requires { n ≤ length ends.now }
-    ensures { result ≡ any (meets_row f) (take n ends.now) }
+// Whether one of the ends is one of the face's.
+fn meets_any(ends: &[Spot], f: Face) -> bool
+    ensures { result ≡ list_any (meets_row f) ends.now }
 {
-    for i in 0..n {
-        let s = ends[i];
-        if at_end(f, Point { x: s[0], y: s[1] }) {
-            return true;
-        }
-    }
-    false
+    ends.iter().any(|s| at_end(f, Point { x: s[0], y: s[1] }))
 }
 
 // The first end of the piece.
-fn first_end(s: SideFeatures, piece: Piece) -> Option<Point>
-    ensures { result ≡ first_of (ends_of piece (discs_in s)) }
+fn first_end<S: Side>(s: &S, piece: Piece) -> Option<Point>
+    ensures { result ≡ first_of (ends_of piece (discs_in (S.features s.now))) }
 {
-    let m = discs(s);
-    for i in 0..m {
-        let p = s.disc[i];
-        if same_piece(p.piece, piece) {
+    for i in 0..s.discs() {
+        let p = s.disc(i);
+        if p.piece == piece {
             let d = p.disc;
             return Some(on_circle(d.center, d.radius, d.from));
         }
@@ -120,21 +89,21 @@ fn first_end(s: SideFeatures, piece: Piece) -> Option<Point>
 }
 
 // The first face with the piece.
-fn face_named(s: SideFeatures, piece: Piece) -> Option<Face>
-    ensures { result ≡ face_named piece (faces_in s) }
+fn face_named<S: Side>(s: &S, piece: Piece) -> Option<Face>
+    ensures { result ≡ face_named piece (faces_in (S.features s.now)) }
 {
-    let m = faces(s);
-    for i in 0..m {
-        let p = s.face[i];
-        if same_piece(p.piece, piece) {
+    for i in 0..s.faces() {
+        let p = s.face(i);
+        if p.piece == piece {
             return Some(p.face);
         }
     }
     None
 }
 
-// ---- scores
+// ---- what faces are scored by
 
+// How a face faces along a direction.
 fn facing(place: Placement, normal: Point, f: Face) -> f64
     ensures { result ≡ facing_of place normal f }
 {
@@ -143,6 +112,7 @@ fn facing(place: Placement, normal: Point, f: Face) -> f64
     dot(n, normal)
 }
 
+// How far a face runs from a corner toward a point.
 fn reach(place: Placement, corner: Point, toward: Point, f: Face) -> f64
     ensures { result ≡ reach_of place corner toward f }
 {
@@ -154,40 +124,22 @@ fn reach(place: Placement, corner: Point, toward: Point, f: Face) -> f64
     dot(way, run) / root(dot(run, run))
 }
 
-fn score(k: Aim, f: Face) -> f64
-    ensures { result ≡ score_of k f }
+// Of the faces that meet one of the ends the last with the highest score.
+fn best_face<S: Side, F: Fn(Face) -> f64>(s: &S, ends: &[Spot], score: F) -> Option<Face>
+    requires { (f : _) → F.pre score f }
+    ensures { (g : Face → Float) → ((f : Face) (x : Float) → F.post score f x → x ≡ g f) → result ≡ best_face (λ f. list_any (meets_row f) ends.now) g (faces_in (S.features s.now)) }
 {
-    let place = k.place;
-    let toward = k.toward;
-    if k.reaching {
-        let corner = k.corner;
-        return reach(place, corner, toward, f);
-    }
-    facing(place, toward, f)
-}
-
-// Of the faces that meet one of the first n ends the last with the highest score.
-fn best_face(s: SideFeatures, ends: &[Spot], n: usize, k: Aim) -> Option<Face>
-    requires { n ≤ length ends.now }
-    ensures { result ≡ best_face (λ f. any (meets_row f) (take n ends.now)) (score_of k) (faces_in s) }
-{
-    let m = faces(s);
-    let mut best = m;
-    let mut top = 0.0;
-    for i in 0..m {
-        let f = s.face[i].face;
-        if meets_any(ends, n, f) {
-            let x = score(k, f);
-            if (best == m) | total_order(top, x) {
-                best = i;
-                top = x;
+    let mut best: Option<Scored> = None;
+    for i in 0..s.faces() {
+        let face = s.face(i).face;
+        if meets_any(ends, face) {
+            let x = score(face);
+            if best.is_none_or(|b| total_order(b.score, x)) {
+                best = Some(Scored { face, score: x });
             }
         }
     }
-    if best < m {
-        return Some(s.face[best].face);
-    }
-    None
+    Some(best?.face)
 }
 
 // ---- slopes
@@ -256,6 +208,7 @@ fn is_level(slope: Option<f64>, length: f64) -> bool
     }
 }
 
+#[tactic(auto, unfolding(crate::specs::Bearing::is_flat))]
 fn is_flat(pb: Placement, stop: Face, pa: Placement, key: Face, slope: Option<f64>) -> bool
     ensures { result ≡ is_flat pb stop pa key slope }
 {
@@ -281,29 +234,20 @@ fn bears_as(how: HowItBears, r: Row, slope: Option<f64>) -> Option<Bearing>
 }
 
 // The stop's face at a disc of its own.
-fn stop_at(b: SideFeatures, place: Placement, r: Row) -> Option<Face>
-    ensures { result ≡ stop_at b place r }
+fn stop_at<S: Side>(b: &S, place: Placement, r: Row) -> Option<Face>
+    ensures { result ≡ stop_at (S.features b.now) place r }
 {
-    let feature = r.feature;
-    let piece = feature.b;
     let mut ends = [[0.0; 2]; 56];
-    let n = put_ends(&mut ends, b, piece);
-    let toward = r.normal.vector();
-    let k = Aim {
-        reaching: false,
-        place,
-        corner: toward,
-        toward,
-    };
-    best_face(b, &ends, n, k)
+    let n = put_ends(&mut ends, b, r.feature.b);
+    let normal = r.normal.vector();
+    best_face(b, &ends[..n], |f| facing(place, normal, f))
 }
 
 // The stop's face under a corner of the key.
-fn stop_under(b: SideFeatures, place: Placement, r: Row) -> Option<Face>
-    ensures { result ≡ stop_under b place r }
+fn stop_under<S: Side>(b: &S, place: Placement, r: Row) -> Option<Face>
+    ensures { result ≡ stop_under (S.features b.now) place r }
 {
-    let feature = r.feature;
-    let piece = feature.b;
+    let piece = r.feature.b;
     if letter(piece) == 0 {
         return face_named(b, piece);
     }
@@ -328,36 +272,24 @@ fn toward(place: Placement, stop: Option<Face>, p: Point) -> Point
 }
 
 // The key's face at its corner.
-fn key_at(
-    a: SideFeatures,
+fn key_at<S: Side>(
+    a: &S,
     place: Placement,
     piece: Piece,
     corner: Point,
     toward: Point,
 ) -> Option<Face>
-    ensures { result ≡ key_at a place piece corner toward }
+    ensures { result ≡ key_at (S.features a.now) place piece corner toward }
 {
     let mut ends = [[0.0; 2]; 56];
     let n = put_ends(&mut ends, a, piece);
-    let k = Aim {
-        reaching: true,
-        place,
-        corner,
-        toward,
-    };
-    best_face(a, &ends, n, k)
+    best_face(a, &ends[..n], |f| reach(place, corner, toward, f))
 }
 
 // On a corner of the key.
 #[tactic(auto, unfolding(crate::specs::Bearing::corner_bearing))]
-fn corner_bearing(
-    a: SideFeatures,
-    pa: Placement,
-    b: SideFeatures,
-    pb: Placement,
-    r: Row,
-) -> Option<Bearing>
-    ensures { result ≡ corner_bearing a pa b pb r }
+fn corner_bearing<S: Side>(a: &S, pa: Placement, b: &S, pb: Placement, r: Row) -> Option<Bearing>
+    ensures { result ≡ corner_bearing (S.features a.now) pa (S.features b.now) pb r }
 {
     let piece = r.feature.a;
     let p = first_end(a, piece)?;
@@ -383,50 +315,47 @@ fn edge_on(pa: Placement, key: Face, pb: Placement, stop: Option<Face>, r: Row) 
 
 // On an edge of the stop, or flat.
 #[tactic(auto, unfolding(crate::specs::Bearing::edge_bearing))]
-fn edge_bearing(
-    a: SideFeatures,
-    pa: Placement,
-    b: SideFeatures,
-    pb: Placement,
-    r: Row,
-) -> Option<Bearing>
-    ensures { result ≡ edge_bearing a pa b pb r }
+fn edge_bearing<S: Side>(a: &S, pa: Placement, b: &S, pb: Placement, r: Row) -> Option<Bearing>
+    ensures { result ≡ edge_bearing (S.features a.now) pa (S.features b.now) pb r }
 {
     let key = face_named(a, r.feature.a)?;
     edge_on(pa, key, pb, stop_at(b, pb, r), r)
 }
 
 // How side A bears on side B by a row of theirs.
-pub fn bearing_of(f: PairFeatures, q: Pose, r: Row) -> Option<Bearing>
-    ensures { result ≡ bearing_of f q r }
+#[tactic(auto, unfolding(crate::specs::Bearing::bearing_of))]
+fn bearing<S: Side>(a: &S, b: &S, q: Pose, r: Row) -> Option<Bearing>
+    ensures { result ≡ bearing_of (record { a = S.features a.now; b = S.features b.now }) q r }
 {
-    let a = f.a;
-    let b = f.b;
-    let pa = placement_at(q, a.body);
-    let pb = placement_at(q, b.body);
-    let feature = r.feature;
-    let on_a = feature.a;
-    let on_b = feature.b;
-    if letter(on_b) == 3 {
+    let pa = placement_at(q, a.body());
+    let pb = placement_at(q, b.body());
+    if letter(r.feature.b) == 3 {
         return None;
     }
-    if on_a.is_disc() {
+    if r.feature.a.is_disc() {
         return corner_bearing(a, pa, b, pb, r);
     }
     edge_bearing(a, pa, b, pb, r)
 }
 
-// The bearing by the governing row of the pair among the first n rows, or among those that there are.
-pub fn governed(
-    f: PairFeatures,
-    q: Pose,
-    places: &[Place],
-    values: &[Value],
-    n: usize,
-    pair: usize,
-) -> Option<Bearing>
-    ensures { result ≡ governed_bearing f q (row_at places.now values.now) (governing_of (pair_in places.now) (gap_in values.now) (records_in n (length places.now) (length values.now)) pair) }
+// The same of a pair's features.
+pub fn bearing_of(f: PairFeatures, q: Pose, r: Row) -> Option<Bearing>
+    ensures { result ≡ bearing_of f q r }
 {
-    let i = governing_in(places, values, n, pair)?;
-    bearing_of(f, q, row_from(places[i], values[i]))
+    bearing(&f.a, &f.b, q, r)
+}
+
+// The governing row of the pair.
+fn governing_row(rows: &ReadRows, pair: usize) -> Option<Row>
+    ensures { result ≡ option_map (row_at rows.now.places.now rows.now.values.now) (governing_in rows.now.places.now rows.now.values.now rows.now.count pair) }
+{
+    Some(rows.row(governing_in(rows, pair)?))
+}
+
+// The bearing by it.
+#[tactic(auto, using(crate::proofs::Answered::by_row))]
+pub fn governed(f: PairFeatures, q: Pose, rows: &ReadRows, pair: usize) -> Option<Bearing>
+    ensures { result ≡ governed_bearing f q (row_at rows.now.places.now rows.now.values.now) (governing_in rows.now.places.now rows.now.values.now rows.now.count pair) }
+{
+    bearing_of(f, q, governing_row(rows, pair)?)
 }

@@ -1,5 +1,6 @@
-mod Rooms
-pub mod Deep
-pub mod Sides
-pub mod Lent
-pub mod Drawn
+mod Listing
+mod Placed
+mod Deep
+mod Drawn
+mod Sides
+mod Pairs

@@ -1,6 +1,6 @@
 -- The candidates of a pair at a pose (contact/rows.rs: `read_pair`), in the Rust's order, before hiding and margin.
 -- Definitions only.
-use Rattle.std.specs.Prelude.{ℕ, ◌+◌, ◌*◌, ◌≤◌, Bool, true, false, ◌&&◌, List, [], ◌++◌, map, leb, take}
+use Rattle.std.specs.Prelude.{ℕ, ◌+◌, ◌*◌, ◌≤◌, Bool, true, false, ◌&&◌, List, [], ◌++◌, map, leb, length}
 use Rattle.std.specs.List.{list_any}
 use Rattle.laws.specs.Lists.{flat}
 use Rattle.geometry.specs.Signed.{disc_on_face, center_on_face}
@@ -18,12 +18,14 @@ use Rattle.bodies.specs.declared.pose.Pose.{Pose}
 use Rattle.material.specs.Material.{Material}
 use Rattle.drawing.specs.Drawing.{side_material}
 use Rattle.sides.specs.Contacts.{pair_features}
+use Rattle.sides.specs.Features.{faces_in, discs_in}
 use Rattle.sides.specs.declared.PlacedDisc.{PlacedDisc}
 use Rattle.sides.specs.declared.PlacedFace.{PlacedFace}
 use Rattle.sides.specs.declared.SideFeatures.{SideFeatures}
 use Rattle.sides.specs.declared.contacts.PairFeatures.{PairFeatures}
-use Rattle.proximities.specs.Proximities.{world_face, world_disc, read_ab, read_ba, read_discs, read_center, each, found_deep}
+use Rattle.proximities.specs.Proximities.{world_face, world_disc, reading, read_ab, read_ba, read_discs, read_center, each, found_deep}
 use Rattle.proximities.specs.declared.Candidate.{Candidate}
+use Rattle.candidates.specs.declared.Reading.{Reading}
 
 -- ---- features in the world
 abbrev pub place_face : Placement → PlacedFace → PlacedFace
@@ -31,13 +33,6 @@ place_face place p = record { piece = p.piece; face = world_face place p.face }
 
 abbrev pub place_disc : Placement → PlacedDisc → PlacedDisc
 place_disc place p = record { piece = p.piece; disc = world_disc place p.disc }
-
--- the faces and discs of a side
-abbrev pub faces_in : SideFeatures → List PlacedFace
-faces_in s = take s.faces s.face
-
-abbrev pub discs_in : SideFeatures → List PlacedDisc
-discs_in s = take s.discs s.disc
 
 abbrev pub faces_at : SideFeatures → Pose → List PlacedFace
 faces_at s q = map (place_face (placement_at q s.body)) (faces_in s)
@@ -83,13 +78,22 @@ no_material = record { solids = []; cuts = [] }
 abbrev pub placed_candidates : Material → Material → SideFeatures → SideFeatures → List Candidate
 placed_candidates ma mb a b = candidates_in ma mb (faces_in a) (discs_in a) (faces_in b) (discs_in b)
 
-pub record FewPlaced (a b : SideFeatures) : Type 0 where
+-- so many places are enough for the candidates of two sides
+abbrev pub places_of : SideFeatures → SideFeatures → ℕ
+places_of a b = length (discs_in a) * length (faces_in b) + (length (discs_in b) * length (faces_in a) + length (discs_in a) * length (discs_in b))
+
+-- the counts of two sides are within their arrays, and n places have room for their candidates
+pub record FewPlaced (a b : SideFeatures) (n : ℕ) : Type 0 where
   pub faces_a : a.faces ≤ 12
   pub discs_a : a.discs ≤ 28
   pub faces_b : b.faces ≤ 12
   pub discs_b : b.discs ≤ 28
-  pub few : a.discs * b.faces + (b.discs * a.faces + a.discs * b.discs) ≤ 784
+  pub few : a.discs * b.faces + (b.discs * a.faces + a.discs * b.discs) ≤ n
+
+-- the candidate of what the code has read
+abbrev pub candidates_of : Reading → List Candidate
+candidates_of r = reading r.a r.b r.who r.near
 
 -- room for any pair's candidates
-abbrev pub candidate_room : Parts → ContactPair → ℕ → ℕ → Bool
-candidate_room ps p near named = pair_drawn ps p && (leb 784 near && leb 784 named)
+abbrev pub candidate_room : Parts → ContactPair → ℕ → Bool
+candidate_room ps p n = pair_drawn ps p && leb 784 n

@@ -1,456 +1,528 @@
-// The candidates of a pair at a pose (contact/rows.rs: `read_pair`), in lent arrays.
+// The candidates of a pair at a pose (contact/rows.rs: `read_pair`), in a lent array.
 #![tactic(auto)]
 
-ghost use Rattle.std.specs.Prelude.{◌≡◌, true, false, cond, [], map, ◌+◌, ◌*◌, ◌≤◌, length};
-ghost use Rattle.laws.specs.Lists.{flat};
+ghost use Rattle.std.specs.Prelude.{◌≡◌, ℕ, true, cond, List, [], ◌+◌, ◌*◌, ◌<◌, ◌≤◌, length};
+ghost use Rattle.laws.specs.Fill.{filled};
+ghost use Rattle.laws.specs.Lists.{list_in, flat};
+ghost use Rattle.bodies.specs.declared.pose.Pose.{Pose};
 ghost use Rattle.mechanism.specs.Check.{FewParts, pair_drawn};
-ghost use Rattle.material.specs.Material.{material_of};
-ghost use Rattle.drawing.specs.Drawing.{side_material};
+ghost use Rattle.material.specs.Material.{Material, drawn_material};
+ghost use Rattle.material.specs.declared.DrawnMaterial.{DrawnMaterial};
+ghost use Rattle.drawing.specs.Drawing.{Held, chosen_material};
+ghost use Rattle.drawing.specs.declared.Chosen.{Chosen};
 ghost use Rattle.proximities.specs.Proximities.{read_ab, read_ba, read_discs, read_center, each, Written};
-ghost use Rattle.candidates.specs.Candidates.{place_face, place_disc, faces_in, discs_in, faces_at, discs_at, disc_deep, any_deep, no_material, placed_candidates, FewPlaced, pair_candidates, candidate_room};
+ghost use Rattle.proximities.specs.declared.Candidate.{Candidate};
+ghost use Rattle.candidates.specs.Candidates.{place_face, place_disc, faces_at, discs_at, disc_deep, any_deep, center_deep, no_material};
+ghost use Rattle.candidates.specs.Candidates.{placed_candidates, features_candidates, center_candidates, candidates_of, places_of, FewPlaced, pair_candidates, candidate_room};
+ghost use Rattle.candidates.specs.declared.Reading.{Reading};
+ghost use Rattle.sides.specs.Features.{faces_in, discs_in};
+
+pub mod prepared;
 
 use bodies::pose::{Placement, Pose, placement_at};
-use drawing::{Polygons, draw, side_chosen};
+use drawing::{Chosen, Polygons, draw, side_chosen};
 use geometry::Point;
-use geometry::signed::{Disc, center_on_face, disc_on_disc, disc_on_face};
-use material::Spot;
+use geometry::signed::{Disc, Proximity, center_on_face, disc_on_disc, disc_on_face};
+use material::{DrawnMaterial, Spot};
 use mechanism::check::pair_drawn;
 use mechanism::features::Piece;
-use mechanism::pair::{ContactPair, PairGeometry, Surface};
-use mechanism::rows::{Place, Value};
+use mechanism::pair::{ContactPair, PairGeometry};
 use mechanism::{Outlines, Parts};
 use proximities::{
-    center_on, found_deep, on_face_a, on_face_b, put_candidate, world_disc, world_face,
+    Candidate, center_on, found_deep, on_face_a, on_face_b, put_candidate, world_disc, world_face,
 };
 use sides::contacts::pair_features_at;
-use sides::{PlacedDisc, PlacedFace, SideFeatures};
+use sides::held::Side;
+use sides::{PlacedDisc, PlacedFace, PlacedPoint, SideFeatures, no_disc, no_face};
 
 // ---- a side in the world
 
-fn place_faces(s: SideFeatures, place: Placement) -> SideFeatures
-    requires { (s.faces ≤ 12) × (s.discs ≤ 28) }
-    ensures { (result.faces ≡ s.faces) × (result.discs ≡ s.discs) × (faces_in result ≡ map (place_face place) (faces_in s)) × (discs_in result ≡ discs_in s) }
+fn place_face(place: Placement, f: PlacedFace) -> PlacedFace
+    ensures { result ≡ place_face place f }
 {
-    let mut face = s.face;
-    for i in 0..s.faces {
-        face[i] = PlacedFace {
-            piece: s.face[i].piece,
-            face: world_face(place, s.face[i].face),
-        };
+    PlacedFace {
+        piece: f.piece,
+        face: world_face(place, f.face),
     }
-    SideFeatures { face, ..s }
 }
 
-fn place_discs(s: SideFeatures, place: Placement) -> SideFeatures
-    requires { (s.faces ≤ 12) × (s.discs ≤ 28) }
-    ensures { (result.faces ≡ s.faces) × (result.discs ≡ s.discs) × (faces_in result ≡ faces_in s) × (discs_in result ≡ map (place_disc place) (discs_in s)) }
+fn place_disc(place: Placement, d: PlacedDisc) -> PlacedDisc
+    ensures { result ≡ place_disc place d }
 {
-    let mut disc = s.disc;
-    for i in 0..s.discs {
-        disc[i] = PlacedDisc {
-            piece: s.disc[i].piece,
-            disc: world_disc(place, s.disc[i].disc),
-        };
+    PlacedDisc {
+        piece: d.piece,
+        disc: world_disc(place, d.disc),
     }
-    SideFeatures { disc, ..s }
 }
 
-// ---- the readings of two sides into the lent arrays
+// An array with the elements of the numbers below n in front, and blanks behind them.
+fn first_of<T: Copy, const N: usize, F: Fn(usize) -> T>(blank: T, n: usize, element: F) -> [T; N]
+    requires calls { (i : ℕ) → F.pre element i }
+    requires room { n ≤ N }
+    ensures { (f : ℕ → T) → ((i : ℕ) (x : T) → i < n → F.post element i x → x ≡ f i) → result ≡ filled N blank (list_in f n 0) }
+{
+    let mut all = [blank; N];
+    for i in 0..n {
+        all[i] = element(i);
+    }
+    all
+}
 
-// A disc of side A on the faces of side B.
-fn disc_on_b(
-    near: &mut [Value],
-    named: &mut [Place],
+// A side's faces and discs in the world.
+fn place_side<S: Side>(s: &S, q: Pose) -> SideFeatures
+    ensures few { (result.faces ≤ 12) × (result.discs ≤ 28) }
+    ensures counts { (result.faces ≡ length (faces_in (S.features s.now))) × (result.discs ≡ length (discs_in (S.features s.now))) }
+    ensures placed { (faces_in result ≡ faces_at (S.features s.now) q) × (discs_in result ≡ discs_at (S.features s.now) q) }
+{
+    let place = placement_at(q, s.body());
+    let faces = s.faces();
+    let discs = s.discs();
+    SideFeatures {
+        body: s.body(),
+        faces,
+        face: first_of(no_face(), faces, |i| place_face(place, s.face(i))),
+        discs,
+        disc: first_of(no_disc(), discs, |i| place_disc(place, s.disc(i))),
+        center: s.center(),
+    }
+}
+
+// ---- readings into a lent array
+
+// What is read of two pieces, and which of them decides: 1 side A's, 2 side B's, 0 none.
+#[derive(Clone, Copy)]
+struct Reading {
+    a: Piece,
+    b: Piece,
+    who: usize,
+    near: Option<Proximity>,
+}
+
+// The readings of a list's elements, in order.
+fn put_each<T: Copy, F: Fn(T) -> Reading>(
+    out: &mut [Candidate],
     at: usize,
-    d: PlacedDisc,
-    b: SideFeatures,
-    points: &[Spot],
-    starts: &[usize],
-    n: Polygons,
+    list: &[T],
+    read: F,
 ) -> usize
-    requires { (b.faces ≤ 12) × (at + b.faces ≤ length near.old) × (at + b.faces ≤ length named.old) }
-    ensures { Written (flat (read_ab (material_of points.now starts.now n.solids n.all) d) (faces_in b)) at result near.old near.new named.old named.new }
+    requires calls { (x : T) → F.pre read x }
+    requires room { at + length list.now ≤ length out.old }
+    ensures few { result ≤ at + length list.now }
+    ensures written { (f : T → List Candidate) → ((x : T) (r : Reading) → F.post read x r → candidates_of r ≡ f x) → Written (flat f list.now) at result out.old out.new }
 {
     let mut to = at;
-    for f in &b.face[..b.faces] {
-        let found = on_face_b(points, starts, n, d.disc, f.face);
-        to = put_candidate(near, named, to, d.piece, f.piece, 1, found);
+    for x in list {
+        let r = read(*x);
+        to = put_candidate(out, to, r.a, r.b, r.who, r.near);
+    }
+    to
+}
+
+// The readings of each element of one list with each of another, those of the first list outermost.
+fn put_all<A: Copy, B: Copy, F: Fn(A, B) -> Reading>(
+    out: &mut [Candidate],
+    at: usize,
+    left: &[A],
+    right: &[B],
+    read: F,
+) -> usize
+    requires calls { (x : A) (y : B) → F.pre read x y }
+    requires room { at + length left.now * length right.now ≤ length out.old }
+    ensures few { result ≤ at + length left.now * length right.now }
+    ensures written { (f : A → B → List Candidate) → ((x : A) (y : B) (r : Reading) → F.post read x y r → candidates_of r ≡ f x y) → Written (each f left.now right.now) at result out.old out.new }
+{
+    let mut to = at;
+    for x in left {
+        to = put_each(out, to, right, |y| read(*x, y));
     }
     to
 }
 
 // All discs of side A on the faces of side B.
 fn discs_on_b(
-    near: &mut [Value],
-    named: &mut [Place],
+    out: &mut [Candidate],
     at: usize,
-    a: SideFeatures,
-    b: SideFeatures,
-    points: &[Spot],
-    starts: &[usize],
-    n: Polygons,
+    a: &SideFeatures,
+    b: &SideFeatures,
+    m: &DrawnMaterial,
 ) -> usize
-    requires { (a.discs ≤ 28) × (b.faces ≤ 12) × (at + a.discs * b.faces ≤ length near.old) × (at + a.discs * b.faces ≤ length named.old) }
-    ensures { Written (each (read_ab (material_of points.now starts.now n.solids n.all)) (discs_in a) (faces_in b)) at result near.old near.new named.old named.new }
+    requires { (a.now.discs ≤ 28) × (b.now.faces ≤ 12) × (at + a.now.discs * b.now.faces ≤ length out.old) }
+    ensures few { result ≤ at + a.now.discs * b.now.faces }
+    ensures written { Written (each (read_ab (drawn_material m.now)) (discs_in a.now) (faces_in b.now)) at result out.old out.new }
 {
-    let mut to = at;
-    for d in &a.disc[..a.discs] {
-        to = disc_on_b(near, named, to, *d, b, points, starts, n);
-    }
-    to
-}
-
-// A disc of side B on the faces of side A.
-fn disc_on_a(
-    near: &mut [Value],
-    named: &mut [Place],
-    at: usize,
-    d: PlacedDisc,
-    a: SideFeatures,
-    points: &[Spot],
-    starts: &[usize],
-    n: Polygons,
-) -> usize
-    requires { (a.faces ≤ 12) × (at + a.faces ≤ length near.old) × (at + a.faces ≤ length named.old) }
-    ensures { Written (flat (read_ba (material_of points.now starts.now n.solids n.all) d) (faces_in a)) at result near.old near.new named.old named.new }
-{
-    let mut to = at;
-    for f in &a.face[..a.faces] {
-        let found = on_face_a(points, starts, n, d.disc, f.face);
-        to = put_candidate(near, named, to, f.piece, d.piece, 2, found);
-    }
-    to
+    let discs = &a.disc[..a.discs];
+    let faces = &b.face[..b.faces];
+    let read = |d: PlacedDisc, f: PlacedFace| Reading {
+        a: d.piece,
+        b: f.piece,
+        who: 1,
+        near: on_face_b(m, d.disc, f.face),
+    };
+    put_all(out, at, discs, faces, read)
 }
 
 // All discs of side B on the faces of side A.
 fn discs_on_a(
-    near: &mut [Value],
-    named: &mut [Place],
+    out: &mut [Candidate],
     at: usize,
-    a: SideFeatures,
-    b: SideFeatures,
-    points: &[Spot],
-    starts: &[usize],
-    n: Polygons,
+    a: &SideFeatures,
+    b: &SideFeatures,
+    m: &DrawnMaterial,
 ) -> usize
-    requires { (b.discs ≤ 28) × (a.faces ≤ 12) × (at + b.discs * a.faces ≤ length near.old) × (at + b.discs * a.faces ≤ length named.old) }
-    ensures { Written (each (read_ba (material_of points.now starts.now n.solids n.all)) (discs_in b) (faces_in a)) at result near.old near.new named.old named.new }
+    requires { (b.now.discs ≤ 28) × (a.now.faces ≤ 12) × (at + b.now.discs * a.now.faces ≤ length out.old) }
+    ensures few { result ≤ at + b.now.discs * a.now.faces }
+    ensures written { Written (each (read_ba (drawn_material m.now)) (discs_in b.now) (faces_in a.now)) at result out.old out.new }
 {
-    let mut to = at;
-    for d in &b.disc[..b.discs] {
-        to = disc_on_a(near, named, to, *d, a, points, starts, n);
-    }
-    to
-}
-
-// A disc of side A on the discs of side B.
-fn disc_on_discs(
-    near: &mut [Value],
-    named: &mut [Place],
-    at: usize,
-    d: PlacedDisc,
-    b: SideFeatures,
-) -> usize
-    requires { (b.discs ≤ 28) × (at + b.discs ≤ length near.old) × (at + b.discs ≤ length named.old) }
-    ensures { Written (flat (read_discs d) (discs_in b)) at result near.old near.new named.old named.new }
-{
-    let mut to = at;
-    for e in &b.disc[..b.discs] {
-        let found = disc_on_disc(d.disc, e.disc);
-        to = put_candidate(near, named, to, d.piece, e.piece, 0, found);
-    }
-    to
+    let discs = &b.disc[..b.discs];
+    let faces = &a.face[..a.faces];
+    let read = |d: PlacedDisc, f: PlacedFace| Reading {
+        a: f.piece,
+        b: d.piece,
+        who: 2,
+        near: on_face_a(m, d.disc, f.face),
+    };
+    put_all(out, at, discs, faces, read)
 }
 
 // All discs of side A on the discs of side B.
-fn discs_on_discs(
-    near: &mut [Value],
-    named: &mut [Place],
-    at: usize,
-    a: SideFeatures,
-    b: SideFeatures,
-) -> usize
-    requires { (a.discs ≤ 28) × (b.discs ≤ 28) × (at + a.discs * b.discs ≤ length near.old) × (at + a.discs * b.discs ≤ length named.old) }
-    ensures { Written (each read_discs (discs_in a) (discs_in b)) at result near.old near.new named.old named.new }
+fn discs_on_discs(out: &mut [Candidate], at: usize, a: &SideFeatures, b: &SideFeatures) -> usize
+    requires { (a.now.discs ≤ 28) × (b.now.discs ≤ 28) × (at + a.now.discs * b.now.discs ≤ length out.old) }
+    ensures { Written (each read_discs (discs_in a.now) (discs_in b.now)) at result out.old out.new }
 {
-    let mut to = at;
-    for d in &a.disc[..a.discs] {
-        to = disc_on_discs(near, named, to, *d, b);
-    }
-    to
+    let mine = &a.disc[..a.discs];
+    let others = &b.disc[..b.discs];
+    let read = |d: PlacedDisc, e: PlacedDisc| Reading {
+        a: d.piece,
+        b: e.piece,
+        who: 0,
+        near: disc_on_disc(d.disc, e.disc),
+    };
+    put_all(out, at, mine, others, read)
 }
 
-// ---- the centre of side B on the faces of side A
-
+// The centre of side B on the faces of side A.
 fn center_on_faces(
-    near: &mut [Value],
-    named: &mut [Place],
-    piece: Piece,
-    c: Point,
-    a: SideFeatures,
-    points: &[Spot],
-    starts: &[usize],
-    n: Polygons,
+    out: &mut [Candidate],
+    c: PlacedPoint,
+    a: &SideFeatures,
+    m: &DrawnMaterial,
 ) -> usize
-    requires { (a.faces ≤ 12) × (a.faces ≤ length near.old) × (a.faces ≤ length named.old) }
-    ensures { Written (flat (read_center (material_of points.now starts.now n.solids n.all) piece c) (faces_in a)) 0 result near.old near.new named.old named.new }
+    requires { (a.now.faces ≤ 12) × (a.now.faces ≤ length out.old) }
+    ensures { Written (flat (read_center (drawn_material m.now) c.piece c.point) (faces_in a.now)) 0 result out.old out.new }
 {
-    let mut to = 0;
-    for f in &a.face[..a.faces] {
-        let found = center_on(points, starts, n, c, f.face);
-        to = put_candidate(near, named, to, f.piece, piece, 2, found);
-    }
-    to
+    let read = |f: PlacedFace| Reading {
+        a: f.piece,
+        b: c.piece,
+        who: 2,
+        near: center_on(m, c.point, f.face),
+    };
+    put_each(out, 0, &a.face[..a.faces], read)
 }
 
 // ---- whether the material is asked for
 
-// Whether a disc reads deep on one of a side's faces.
-fn disc_deep(d: Disc, t: SideFeatures) -> bool
-    requires { t.faces ≤ 12 }
-    ensures { result ≡ disc_deep (faces_in t) d }
+// Whether a disc reads deep on one of the faces.
+fn disc_deep(d: Disc, faces: &[PlacedFace]) -> bool
+    ensures { result ≡ disc_deep faces.now d }
 {
-    let faces = &t.face[..t.faces];
     faces.iter().any(|f| found_deep(disc_on_face(d, f.face)))
 }
 
-// Whether one of a side's discs reads deep on one of the other side's faces.
-fn any_deep(s: SideFeatures, t: SideFeatures) -> bool
-    requires { (s.discs ≤ 28) × (t.faces ≤ 12) }
-    ensures { result ≡ any_deep (discs_in s) (faces_in t) }
+// Whether one of the discs reads deep on one of the faces.
+fn any_deep(discs: &[PlacedDisc], faces: &[PlacedFace]) -> bool
+    ensures { result ≡ any_deep discs.now faces.now }
 {
-    s.disc[..s.discs].iter().any(|d| disc_deep(d.disc, t))
+    discs.iter().any(|d| disc_deep(d.disc, faces))
 }
 
-// ---- the candidates of a pair
-
-// Of a features pair with something deep: both materials are drawn.
-fn deep_features(
-    near: &mut [Value],
-    named: &mut [Place],
-    ps: Parts,
-    o: Outlines,
-    q: Pose,
-    p: ContactPair,
-    a: SideFeatures,
-    b: SideFeatures,
-) -> usize
-    requires { FewParts ps × FewPlaced a b × (784 ≤ length near.old) × (784 ≤ length named.old) }
-    ensures { Written (placed_candidates (side_material ps o q p.a true) (side_material ps o q p.b true) a b) 0 result near.old near.new named.old named.new }
+// Whether a centre reads deep on one of the faces.
+fn center_deep(c: Point, faces: &[PlacedFace]) -> bool
+    ensures { result ≡ center_deep faces.now c }
 {
-    let mut points = [[0.0; 2]; 6144];
-    let mut starts = [0; 33];
-    let n = draw(
-        &mut points,
-        &mut starts,
-        ps,
-        o,
-        q,
-        side_chosen(ps, p.b, true),
-    );
-    let i = discs_on_b(
-        near,
-        named,
-        0,
-        a,
-        b,
-        &points[..n.points],
-        &starts[..n.all + 1],
-        n,
-    );
-    let m = draw(
-        &mut points,
-        &mut starts,
-        ps,
-        o,
-        q,
-        side_chosen(ps, p.a, true),
-    );
-    let j = discs_on_a(
-        near,
-        named,
-        i,
-        a,
-        b,
-        &points[..m.points],
-        &starts[..m.all + 1],
-        m,
-    );
-    discs_on_discs(near, named, j, a, b)
+    faces.iter().any(|f| found_deep(center_on_face(c, f.face)))
 }
 
-// Of a features pair with nothing deep: no material is asked for.
-fn plain_features(
-    near: &mut [Value],
-    named: &mut [Place],
-    a: SideFeatures,
-    b: SideFeatures,
-) -> usize
-    requires { FewPlaced a b × (784 ≤ length near.old) × (784 ≤ length named.old) }
-    ensures { Written (placed_candidates no_material no_material a b) 0 result near.old near.new named.old named.new }
-{
-    let points = [[0.0; 2]; 1];
-    let starts = [0; 1];
-    let n = Polygons {
-        solids: 0,
-        all: 0,
-        points: 0,
-    };
-    let i = discs_on_b(near, named, 0, a, b, &points, &starts, n);
-    let j = discs_on_a(near, named, i, a, b, &points, &starts, n);
-    discs_on_discs(near, named, j, a, b)
+// ---- the material that is drawn
+
+// What a material is drawn from: a description as it is, or prepared.
+trait Drawing {
+    // The material of chosen parts.
+    ghost material: { Self → Pose → Chosen → Material };
+
+    // How many points have room for any of its materials.
+    ghost most: { Self → ℕ };
+
+    // Where that is more than those of any description, there is no material.
+    fn room(&self) -> usize
+        ensures { (result ≡ most self.now) × ((q : Pose) (c : Chosen) → 6144 < result → material self.now q c ≡ no_material) };
+
+    // Draws the material of chosen parts at a pose.
+    fn draw(&self, points: &mut [Spot], starts: &mut [usize], q: Pose, c: Chosen) -> Polygons
+        requires { (most self.now ≤ 6144) × (most self.now ≤ length points.old) × (33 ≤ length starts.old) }
+        ensures { (m : DrawnMaterial) → Held result points.new starts.new m → drawn_material m ≡ material self.now q c };
 }
 
-fn features_candidates(
-    near: &mut [Value],
-    named: &mut [Place],
-    ps: Parts,
-    o: Outlines,
-    q: Pose,
-    p: ContactPair,
-    a: SideFeatures,
-    b: SideFeatures,
-) -> usize
-    requires { FewParts ps × FewPlaced a b × (784 ≤ length near.old) × (784 ≤ length named.old) }
-    ensures { Written (placed_candidates (side_material ps o q p.a true) (side_material ps o q p.b true) a b) 0 result near.old near.new named.old named.new }
-{
-    if any_deep(a, b) || any_deep(b, a) {
-        return deep_features(near, named, ps, o, q, p, a, b);
+// A description as it is: its parts and their outlines.
+#[derive(Clone, Copy)]
+struct Described<'a> {
+    parts: &'a Parts,
+    outlines: &'a Outlines,
+
+    ghost few: { FewParts parts.now },
+}
+
+impl Drawing for Described<'_> {
+    ghost material = { λ d q c. chosen_material d.parts.now d.outlines.now q c };
+
+    ghost most = { λ d. 6144 };
+
+    fn room(&self) -> usize {
+        6144
     }
-    plain_features(near, named, a, b)
+
+    fn draw(&self, points: &mut [Spot], starts: &mut [usize], q: Pose, c: Chosen) -> Polygons {
+        draw(points, starts, *self.parts, *self.outlines, q, c)
+    }
 }
 
-// Of a centre pair with something deep: side A's parts are drawn, no cut taken away.
-fn deep_center(
-    near: &mut [Value],
-    named: &mut [Place],
-    ps: Parts,
-    o: Outlines,
-    q: Pose,
-    u: Surface,
-    piece: Piece,
-    c: Point,
-    a: SideFeatures,
-) -> usize
-    requires { FewParts ps × (a.faces ≤ 12) × (784 ≤ length near.old) × (784 ≤ length named.old) }
-    ensures { Written (flat (read_center (side_material ps o q u false) piece c) (faces_in a)) 0 result near.old near.new named.old named.new }
-{
-    let mut points = [[0.0; 2]; 6144];
-    let mut starts = [0; 33];
-    let n = draw(
-        &mut points,
-        &mut starts,
-        ps,
-        o,
-        q,
-        side_chosen(ps, u, false),
-    );
-    center_on_faces(
-        near,
-        named,
-        piece,
-        c,
-        a,
-        &points[..n.points],
-        &starts[..n.all + 1],
-        n,
-    )
-}
-
+// The material of no parts.
 #[tactic(auto, unfolding(laws::specs::Lists::list_in))]
-fn plain_center(
-    near: &mut [Value],
-    named: &mut [Place],
-    piece: Piece,
-    c: Point,
-    a: SideFeatures,
-) -> usize
-    requires { (a.faces ≤ 12) × (784 ≤ length near.old) × (784 ≤ length named.old) }
-    ensures { Written (flat (read_center no_material piece c) (faces_in a)) 0 result near.old near.new named.old named.new }
+fn nothing<'a>() -> DrawnMaterial<'a>
+    ensures { drawn_material result ≡ no_material }
 {
-    let points = [[0.0; 2]; 1];
-    let starts = [0; 1];
-    let n = Polygons {
+    DrawnMaterial {
+        points: &[],
+        starts: &[],
         solids: 0,
         all: 0,
-        points: 0,
-    };
-    center_on_faces(near, named, piece, c, a, &points, &starts, n)
-}
-
-fn center_candidates(
-    near: &mut [Value],
-    named: &mut [Place],
-    ps: Parts,
-    o: Outlines,
-    q: Pose,
-    u: Surface,
-    piece: Piece,
-    c: Point,
-    a: SideFeatures,
-) -> usize
-    requires { FewParts ps × (a.faces ≤ 12) × (784 ≤ length near.old) × (784 ≤ length named.old) }
-    ensures { Written (flat (read_center (side_material ps o q u false) piece c) (faces_in a)) 0 result near.old near.new named.old named.new }
-{
-    let faces = &a.face[..a.faces];
-    if faces.iter().any(|f| found_deep(center_on_face(c, f.face))) {
-        return deep_center(near, named, ps, o, q, u, piece, c, a);
     }
-    plain_center(near, named, piece, c, a)
 }
 
-// A side's faces and discs in the world.
-fn place_side(s: SideFeatures, q: Pose) -> SideFeatures
-    requires { (s.faces ≤ 12) × (s.discs ≤ 28) }
-    ensures { (result.faces ≡ s.faces) × (result.discs ≡ s.discs) × (faces_in result ≡ faces_at s q) × (discs_in result ≡ discs_at s q) }
-{
-    let place = placement_at(q, s.body);
-    place_discs(place_faces(s, place), place)
-}
+// ---- the candidates of two sides in the world
 
-fn drawn_candidates(
-    near: &mut [Value],
-    named: &mut [Place],
-    ps: Parts,
-    o: Outlines,
+// With both materials, in room for N points: a function pays for all its arrays when it is entered, so each room is a call of its own.
+fn deep_features_with<const N: usize, D: Drawing>(
+    out: &mut [Candidate],
+    from: &D,
     q: Pose,
-    p: ContactPair,
+    ca: Chosen,
+    cb: Chosen,
+    a: &SideFeatures,
+    b: &SideFeatures,
 ) -> usize
-    requires { (pair_drawn ps p ≡ true) × (784 ≤ length near.old) × (784 ≤ length named.old) }
-    ensures { Written (pair_candidates ps o q p) 0 result near.old near.new named.old named.new }
+    requires { (D.most from.now ≤ N) × (N ≤ 6144) × FewPlaced a.now b.now (length out.old) }
+    ensures { Written (placed_candidates (D.material from.now q ca) (D.material from.now q cb) a.now b.now) 0 result out.old out.new }
+{
+    let mut points = [[0.0; 2]; N];
+    let mut starts = [0; 33];
+    let n = from.draw(&mut points, &mut starts, q, cb);
+    let i = discs_on_b(out, 0, a, b, &n.held(&points, &starts));
+    let n = from.draw(&mut points, &mut starts, q, ca);
+    let j = discs_on_a(out, i, a, b, &n.held(&points, &starts));
+    discs_on_discs(out, j, a, b)
+}
+
+// Without material.
+fn plain_features(out: &mut [Candidate], a: &SideFeatures, b: &SideFeatures) -> usize
+    requires { FewPlaced a.now b.now (length out.old) }
+    ensures { Written (placed_candidates no_material no_material a.now b.now) 0 result out.old out.new }
+{
+    let m = nothing();
+    let i = discs_on_b(out, 0, a, b, &m);
+    let j = discs_on_a(out, i, a, b, &m);
+    discs_on_discs(out, j, a, b)
+}
+
+// With both materials, or without them where no room is enough.
+fn deep_features<D: Drawing>(
+    out: &mut [Candidate],
+    from: &D,
+    q: Pose,
+    ca: Chosen,
+    cb: Chosen,
+    a: &SideFeatures,
+    b: &SideFeatures,
+) -> usize
+    requires { FewPlaced a.now b.now (length out.old) }
+    ensures { Written (placed_candidates (D.material from.now q ca) (D.material from.now q cb) a.now b.now) 0 result out.old out.new }
+{
+    let n = from.room();
+    if n <= 512 {
+        return deep_features_with::<512, D>(out, from, q, ca, cb, a, b);
+    }
+    if n <= 6144 {
+        return deep_features_with::<6144, D>(out, from, q, ca, cb, a, b);
+    }
+    plain_features(out, a, b)
+}
+
+// The material is asked for where something reads deep.
+fn features_candidates<D: Drawing>(
+    out: &mut [Candidate],
+    from: &D,
+    q: Pose,
+    ca: Chosen,
+    cb: Chosen,
+    a: &SideFeatures,
+    b: &SideFeatures,
+) -> usize
+    requires { FewPlaced a.now b.now (length out.old) }
+    ensures { Written (placed_candidates (D.material from.now q ca) (D.material from.now q cb) a.now b.now) 0 result out.old out.new }
+{
+    if any_deep(&a.disc[..a.discs], &b.face[..b.faces])
+        || any_deep(&b.disc[..b.discs], &a.face[..a.faces])
+    {
+        return deep_features(out, from, q, ca, cb, a, b);
+    }
+    plain_features(out, a, b)
+}
+
+// ---- the candidates of a centre in the world on a side's faces
+
+// With the material, in room for N points.
+fn deep_center_with<const N: usize, D: Drawing>(
+    out: &mut [Candidate],
+    from: &D,
+    q: Pose,
+    ca: Chosen,
+    c: PlacedPoint,
+    a: &SideFeatures,
+) -> usize
+    requires { (D.most from.now ≤ N) × (N ≤ 6144) × (a.now.faces ≤ 12) × (a.now.faces ≤ length out.old) }
+    ensures { Written (flat (read_center (D.material from.now q ca) c.piece c.point) (faces_in a.now)) 0 result out.old out.new }
+{
+    let mut points = [[0.0; 2]; N];
+    let mut starts = [0; 33];
+    let n = from.draw(&mut points, &mut starts, q, ca);
+    center_on_faces(out, c, a, &n.held(&points, &starts))
+}
+
+// Without material.
+fn plain_center(out: &mut [Candidate], c: PlacedPoint, a: &SideFeatures) -> usize
+    requires { (a.now.faces ≤ 12) × (a.now.faces ≤ length out.old) }
+    ensures { Written (flat (read_center no_material c.piece c.point) (faces_in a.now)) 0 result out.old out.new }
+{
+    center_on_faces(out, c, a, &nothing())
+}
+
+// With the material, or without it where no room is enough.
+fn deep_center<D: Drawing>(
+    out: &mut [Candidate],
+    from: &D,
+    q: Pose,
+    ca: Chosen,
+    c: PlacedPoint,
+    a: &SideFeatures,
+) -> usize
+    requires { (a.now.faces ≤ 12) × (a.now.faces ≤ length out.old) }
+    ensures { Written (flat (read_center (D.material from.now q ca) c.piece c.point) (faces_in a.now)) 0 result out.old out.new }
+{
+    let n = from.room();
+    if n <= 512 {
+        return deep_center_with::<512, D>(out, from, q, ca, c, a);
+    }
+    if n <= 6144 {
+        return deep_center_with::<6144, D>(out, from, q, ca, c, a);
+    }
+    plain_center(out, c, a)
+}
+
+// The material is asked for where something reads deep.
+fn center_candidates<D: Drawing>(
+    out: &mut [Candidate],
+    from: &D,
+    q: Pose,
+    ca: Chosen,
+    c: PlacedPoint,
+    a: &SideFeatures,
+) -> usize
+    requires { (a.now.faces ≤ 12) × (a.now.faces ≤ length out.old) }
+    ensures { Written (flat (read_center (D.material from.now q ca) c.piece c.point) (faces_in a.now)) 0 result out.old out.new }
+{
+    if center_deep(c.point, &a.face[..a.faces]) {
+        return deep_center(out, from, q, ca, c, a);
+    }
+    plain_center(out, c, a)
+}
+
+// ---- the candidates of a pair, with the parts of each side's material
+
+fn of_features<S: Side, D: Drawing>(
+    out: &mut [Candidate],
+    from: &D,
+    q: Pose,
+    ca: Chosen,
+    cb: Chosen,
+    a: &S,
+    b: &S,
+) -> usize
+    requires { places_of (S.features a.now) (S.features b.now) ≤ length out.old }
+    ensures { Written (features_candidates (D.material from.now q ca) (D.material from.now q cb) (record { a = S.features a.now; b = S.features b.now }) q) 0 result out.old out.new }
+{
+    let a = place_side(a, q);
+    let b = place_side(b, q);
+    features_candidates(out, from, q, ca, cb, &a, &b)
+}
+
+fn of_center<S: Side, D: Drawing>(
+    out: &mut [Candidate],
+    from: &D,
+    q: Pose,
+    ca: Chosen,
+    a: &S,
+    b: &S,
+) -> usize
+    requires { length (faces_in (S.features a.now)) ≤ length out.old }
+    ensures { Written (center_candidates (D.material from.now q ca) (record { a = S.features a.now; b = S.features b.now }) q) 0 result out.old out.new }
+{
+    let center = b.center();
+    let c = PlacedPoint {
+        piece: center.piece,
+        point: placement_at(q, b.body()).world(center.point),
+    };
+    center_candidates(out, from, q, ca, c, &place_side(a, q))
+}
+
+fn drawn_candidates(out: &mut [Candidate], ps: Parts, o: Outlines, q: Pose, p: ContactPair) -> usize
+    requires { (pair_drawn ps p ≡ true) × (784 ≤ length out.old) }
+    ensures { Written (pair_candidates ps o q p) 0 result out.old out.new }
 {
     let f = pair_features_at(ps, o, p);
-    let a = place_side(f.a, q);
+    let from = Described {
+        parts: &ps,
+        outlines: &o,
+    };
     match p.geometry {
         PairGeometry::Features => {
-            features_candidates(near, named, ps, o, q, p, a, place_side(f.b, q))
+            let ca = side_chosen(ps, p.a, true);
+            let cb = side_chosen(ps, p.b, true);
+            of_features(out, &from, q, ca, cb, &f.a, &f.b)
         }
         PairGeometry::CenterBearing => {
-            let c = placement_at(q, f.b.body).world(f.b.center.point);
-            center_candidates(near, named, ps, o, q, p.a, f.b.center.piece, c, a)
+            let ca = side_chosen(ps, p.a, false);
+            of_center(out, &from, q, ca, &f.a, &f.b)
         }
     }
 }
 
-fn candidate_room(ps: Parts, p: ContactPair, near: usize, named: usize) -> bool
-    ensures { result ≡ candidate_room ps p near named }
+fn candidate_room(ps: Parts, p: ContactPair, n: usize) -> bool
+    ensures { result ≡ candidate_room ps p n }
 {
-    pair_drawn(ps, p) && 784 <= near && 784 <= named
+    pair_drawn(ps, p) && 784 <= n
 }
 
-// Writes the candidates of a pair at a pose, in order; nothing where a side is not drawn or the arrays are too short.
+// Writes the candidates of a pair at a pose, in order; nothing where a side is not drawn or the array is too short.
 pub fn pair_candidates(
-    near: &mut [Value],
-    named: &mut [Place],
+    out: &mut [Candidate],
     ps: Parts,
     o: Outlines,
     q: Pose,
     p: ContactPair,
 ) -> usize
-    ensures { Written (cond (candidate_room ps p (length near.old) (length named.old)) (pair_candidates ps o q p) []) 0 result near.old near.new named.old named.new }
+    ensures { Written (cond (candidate_room ps p (length out.old)) (pair_candidates ps o q p) []) 0 result out.old out.new }
 {
-    if candidate_room(ps, p, near.len(), named.len()) {
-        return drawn_candidates(near, named, ps, o, q, p);
+    if candidate_room(ps, p, out.len()) {
+        return drawn_candidates(out, ps, o, q, p);
     }
     0
 }

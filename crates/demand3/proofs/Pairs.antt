@@ -16,7 +16,8 @@ use Rattle.bodies.specs.declared.pose.Pose.{Pose}
 use Rattle.showing.specs.Showing.{within, shows}
 use Rattle.showing.proofs.Demand3.{Demand3, Instead, demand_3}
 use Rattle.proximities.specs.declared.Candidate.{Candidate}
-use Rattle.shown_rows.specs.Rows.{candidate_at, gap_at, decides, alike, shown_of, row_of, pair_rows, rows_of_pair}
+use Rattle.shown_rows.specs.Rows.{pair_rows, rows_of_pair}
+use Rattle.pair_rows.specs.PairRows.{candidate_at, gap_at, decides, alike, shown_of, row_of}
 use Rattle.shown_rows.proofs.OfPair.{rows_few}
 use Rattle.demand3.specs.Demand3.{NotAbove, candidates_of, InPlace, OfPair}
 use Rattle.demand3.proofs.Pieces.{pieces_agree}

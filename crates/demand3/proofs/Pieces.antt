@@ -13,7 +13,7 @@ use Rattle.mechanism.specs.declared.features.Piece.{Piece}
 use Rattle.showing.specs.Showing.{Alike}
 use Rattle.proximities.specs.Proximities.{reading, kept_if, exchanged, real_of, center_real, read_ab, read_ba, read_discs, read_center}
 use Rattle.proximities.specs.declared.Candidate.{Candidate}
-use Rattle.shown_rows.specs.Rows.{candidate_at, decides, deciding, alike}
+use Rattle.pair_rows.specs.PairRows.{candidate_at, decides, deciding, alike}
 use Rattle.demand3.specs.Demand3.{AtMostOne}
 use Rattle.std.proofs.Common.{Option, Some, None}
 use Rattle.geometry.specs.declared.signed.Proximity.{Proximity}

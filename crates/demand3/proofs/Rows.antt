@@ -17,7 +17,8 @@ use Rattle.bodies.specs.declared.pose.Pose.{Pose}
 use Rattle.mechanism.specs.declared.rows.Row.{Row}
 use Rattle.showing.proofs.Demand3.{margins}
 use Rattle.pair_rows.specs.PairRows.{left_of}
-use Rattle.shown_rows.specs.Rows.{candidate_at, gap_at, decides, alike, shown_of, row_of, grad_of, slip_of, features_of_pair, pair_numbers, rows_of_pair, rows_of, grads_of_pair, slips_of_pair, grads_of, slips_of}
+use Rattle.shown_rows.specs.Rows.{grad_of, slip_of, features_of_pair, pair_numbers, rows_of_pair, rows_of, grads_of_pair, slips_of_pair, grads_of, slips_of}
+use Rattle.pair_rows.specs.PairRows.{candidate_at, gap_at, decides, alike, shown_of, row_of}
 use Rattle.pair_rows.proofs.Along.{along-long}
 use Rattle.demand3.specs.Demand3.{only, AtMost, candidates_of, grad_of_row, slip_of_row}
 use Rattle.demand3.proofs.Pairs.{of_pair}

@@ -24,7 +24,8 @@ use Rattle.showing.specs.Showing.{deep_f}
 use Rattle.proximities.specs.Proximities.{read_ab, read_ba, read_discs, read_center}
 use Rattle.proximities.specs.declared.Candidate.{Candidate}
 use Rattle.candidates.specs.Candidates.{pair_candidates}
-use Rattle.shown_rows.specs.Rows.{candidate_at, gap_at, decides, alike, shown_of, row_of, grad_of, slip_of, features_of_pair, rows_of_pair, rows_of, grads_of, slips_of}
+use Rattle.shown_rows.specs.Rows.{grad_of, slip_of, features_of_pair, rows_of_pair, rows_of, grads_of, slips_of}
+use Rattle.pair_rows.specs.PairRows.{candidate_at, gap_at, decides, alike, shown_of, row_of}
 use Rattle.governing.specs.Governing.{governing_of, Governing}
 use Rattle.bearings.specs.Bearing.{bearing_from, row_at}
 use Rattle.reading.specs.Reading.{no_pair_reading, reading_of}

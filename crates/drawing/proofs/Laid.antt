@@ -15,7 +15,7 @@ use Rattle.laws.specs.Lists.{list_in, flat}
 use Rattle.laws.specs.Loops.{filter_in}
 use Rattle.laws.proofs.Choice.{and_yes, cond_yes, cond_no}
 use Rattle.laws.proofs.Fill.{map_back}
-use Rattle.laws.proofs.Lists.{list_get, list_as, flat_append, filter_same, filter-count, filter-within}
+use Rattle.laws.proofs.Lists.{list_get, list_as, flat_append, filter_same, filter-within}
 use Rattle.laws.proofs.Sums.{sum-scaled}
 use Rattle.laws.proofs.Writing.{sets-taken}
 use Rattle.geometry.specs.declared.Point.{Point}
@@ -29,11 +29,13 @@ use Rattle.mechanism.specs.declared.pair.Surface.{Surface}
 use Rattle.bodies.specs.declared.pose.Pose.{Pose}
 use Rattle.silhouette.specs.Silhouette.{in_the_section, silhouette_at}
 use Rattle.material.specs.Material.{Edge, Material, point_of, points_of, between, poly_at, material_of}
-use Rattle.drawing.specs.Drawing.{is_cut, is_read_cut, polygon_of, on_side, solid_in, cut_in, side_material, chosen_as, solids_of, cuts_of, chosen_material, what_is, side_chosen, row_of, same, rows_of, ends_from, starts_of}
+use Rattle.drawing.specs.Drawing.{is_cut, is_read_cut, polygon_of, on_side, solid_in, cut_in, side_material, chosen_as, solids_of, cuts_of, chosen_material, what_is, side_chosen, row_of}
+use Rattle.drawing.specs.Drawing.{same, rows_of, ends_from, starts_of}
 use Rattle.drawing.specs.Samples.{ends_of, mouths_of, mouth_row, mouth_in, mouths_in, mouth_room}
 use Rattle.drawing.specs.declared.Chosen.{Chosen}
 use Rattle.drawing.proofs.Segments.{silhouette_short}
-use Rattle.drawing.proofs.Draws.{cond_below, polygons_short, chosen-segs, chosen-count, ends-length, flat-first, rows_append}
+use Rattle.drawing.proofs.Draws.{cond_below, ends-length, flat-first, rows_append}
+use Rattle.drawing.proofs.Rooms.{points_most}
 use Rattle.drawing.proofs.Sides.{what_of}
 
 -- ---- rows are read back
@@ -79,11 +81,13 @@ poly_at_lem polys k h =
     let n : s + length p - s ≡ length p = omega arith in
     ap₂ (λ (x y : ℕ). points_of (between (rows_of polys) x y)) a e
     ∙ ap (λ (m : ℕ). points_of (take m (drop s (rows_of polys)))) n
-    ∙ ap (λ (l : List (List Float)). points_of (take (length p) l)) (ap (drop s) (rows_split polys k h) ∙ drop_at (rows_of (take k polys)) (map row_of p ++ rows_of (drop (suc k) polys)) s (length-map (flat same (take k polys)) row_of))
+    ∙ ap (λ (l : List (List Float)). points_of (take (length p) l)) (ap (drop s) (rows_split polys k h)
+    ∙ drop_at (rows_of (take k polys)) (map row_of p ++ rows_of (drop (suc k) polys)) s (length-map (flat same (take k polys)) row_of))
     ∙ ap points_of (take_at (map row_of p) (rows_of (drop (suc k) polys)) (length p) (length-map p row_of))
     ∙ points_back p
 
-pub laid : (solids cuts : List (List Point)) → material_of (rows_of (solids ++ cuts)) (starts_of (solids ++ cuts)) (length solids) (length solids + length cuts) ≡ record { solids = solids; cuts = cuts }
+pub laid : (solids cuts : List (List Point)) → material_of (rows_of (solids ++ cuts)) (starts_of (solids ++ cuts)) (length solids)
+    (length solids + length cuts) ≡ record { solids = solids; cuts = cuts }
 laid solids cuts = ap₂ made first second
   where
     all : List (List Point)
@@ -155,44 +159,13 @@ side-chosen ps o q u cuts h =
     ap₂ (λ (x y : List ℕ). record { solids = map (polygon_of ps o q) x; cuts = map (polygon_of ps o q) y }) a b
 
 -- ---- how much room the parts need
-pub points_most : (ps : Parts) (o : Outlines) (q : Pose) (c : Chosen) → FewParts ps → (length (flat same (solids_of ps o q c ++ cuts_of ps o q c)) ≤ 16 * start_of_part ps ps.count) × (length (solids_of ps o q c ++ cuts_of ps o q c) ≤ 32)
-points_most ps o q c few =
-    let a = polygons_short ps o q (chosen_as c 1) ps.count 0 in
-    let b = polygons_short ps o q (chosen_as c 2) ps.count 0 in
-    let s = chosen-segs ps c ps.count in
-    let l = ap length (flat_append same (solids_of ps o q c) (cuts_of ps o q c)) ∙ length-append (flat same (solids_of ps o q c)) (flat same (cuts_of ps o q c)) in
-    let n = few.count in
-    let k = chosen-count c ps.count in
-    let d = length-append (solids_of ps o q c) (cuts_of ps o q c) in
-    let e = length-map (filter_in (chosen_as c 1) ps.count 0) (polygon_of ps o q) ∙ filter-count (chosen_as c 1) ps.count 0 in
-    let f = length-map (filter_in (chosen_as c 2) ps.count 0) (polygon_of ps o q) ∙ filter-count (chosen_as c 2) ps.count 0 in
-    (omega (arith, a, b, s, l), omega (arith, n, k, d, e, f))
-
-pub points_few : (ps : Parts) (o : Outlines) (q : Pose) (c : Chosen) → FewParts ps → (length (flat same (solids_of ps o q c ++ cuts_of ps o q c)) ≤ 6144) × (length (solids_of ps o q c ++ cuts_of ps o q c) ≤ 32)
+pub points_few : (ps : Parts) (o : Outlines) (q : Pose) (c : Chosen) → FewParts ps → (length (flat same (solids_of ps o q c ++ cuts_of ps o q c)) ≤ 6144)
+    × (length (solids_of ps o q c ++ cuts_of ps o q c) ≤ 32)
 points_few ps o q c few =
     let m = points_most ps o q c few in
     let a = m.0 in
     let t = few.total in
     (omega (arith, a, t), m.1)
-
--- what `draw_from` leaves in arrays that have room, read as the overlap readings read it
-pub drawn-material : (ps : Parts) (o : Outlines) (q : Pose) (c : Chosen) (l : List (List Float)) (s : List ℕ) → FewParts ps → 16 * start_of_part ps ps.count ≤ length l → 33 ≤ length s
-    → material_of (take (length (flat same (solids_of ps o q c ++ cuts_of ps o q c))) (sets l 0 (rows_of (solids_of ps o q c ++ cuts_of ps o q c))))
-    (take (length (solids_of ps o q c) + length (cuts_of ps o q c) + 1) (sets s 0 (starts_of (solids_of ps o q c ++ cuts_of ps o q c))))
-    (length (solids_of ps o q c)) (length (solids_of ps o q c) + length (cuts_of ps o q c)) ≡ chosen_material ps o q c
-unfolding chosen_material
-drawn-material ps o q c l s few a b =
-    let solids = solids_of ps o q c in
-    let cuts = cuts_of ps o q c in
-    let f = points_most ps o q c few in
-    let d = f.0 in
-    let e = f.1 in
-    let m = length-map (flat same (solids ++ cuts)) row_of in
-    let n = length-append solids cuts in
-    ap₂ (λ (x : List (List Float)) (y : List ℕ). material_of x y (length solids) (length solids + length cuts))
-    (taken-points (solids ++ cuts) l (omega (arith, a, d, m)))
-    (ap (λ (k : ℕ). take (k + 1) (sets s 0 (starts_of (solids ++ cuts)))) (sym n) ∙ taken-starts (solids ++ cuts) s (omega (arith, b, e)))
-    ∙ laid solids cuts
 
 mouths-most : (ps : Parts) (o : Outlines) → length (mouths_of ps o) ≤ 2 * start_of_part ps ps.count
 unfolding mouths_of
@@ -210,8 +183,10 @@ pub counted-few : (ps : Parts) → FewParts ps → segs_counted ps ≡ start_of_
 counted-few ps few = cond_no _ _ (parts-few ps few)
 
 -- what `draw_mouths` leaves in an array that has room
-module _ (ps : Parts) (rows : List (List Float)) (few : FewParts ps) (there : start_of_part ps ps.count ≤ length rows) (l : List (List Float)) (long : 2 * start_of_part ps ps.count ≤ length l) {n : ℕ} {l' : List (List Float)}
-    (drawn : (n ≡ cond (mouth_room ps (length l) (length rows)) (length (mouths_of ps (outlines_in rows))) 0) × (l' ≡ cond (mouth_room ps (length l) (length rows)) (sets l 0 (map mouth_row (mouths_of ps (outlines_in rows)))) l)) where
+module _ (ps : Parts) (rows : List (List Float)) (few : FewParts ps) (there : start_of_part ps ps.count ≤ length rows) (l : List (List Float))
+    (long : 2 * start_of_part ps ps.count ≤ length l) {n : ℕ} {l' : List (List Float)}
+    (drawn : (n ≡ cond (mouth_room ps (length l) (length rows)) (length (mouths_of ps (outlines_in rows))) 0)
+    × (l' ≡ cond (mouth_room ps (length l) (length rows)) (sets l 0 (map mouth_row (mouths_of ps (outlines_in rows)))) l)) where
   abbrev mouths : List Edge
   mouths = mouths_of ps (outlines_in rows)
 

@@ -1,8 +1,10 @@
 pub mod Known
 pub mod Segments
 pub mod Draws
+pub mod Rooms
 pub mod Mouths
 pub mod Sides
 pub mod Laid
 pub mod Lays
 pub mod Same
+pub mod Held

@@ -63,7 +63,11 @@ samples_short mouths s = go (is_mouth mouths (ends_of s))
 module _ (g : Point → Point) (at : ℕ) (out₀ : List (List Float)) {s : Seg} {r : ℕ} {out : List (List Float)} where
   pub of-line : {a b : Point} → s ≡ Line a b → (r ≡ at + 17) × (out ≡ sets out₀ at (map row_of (map g (list_in (on_line a b) 17 0))))
       → (r ≡ at + length (sample_points s)) × (out ≡ sets out₀ at (map row_of (map g (sample_points s))))
-  of-line {a} {b} e w = (w.0 ∙ ap (λ (n : ℕ). at + n) (sym (line-long (on_line a b))) ∙ ap (λ (x : Seg). at + length (sample_points x)) (sym e), w.1 ∙ ap (λ (x : Seg). sets out₀ at (map row_of (map g (sample_points x)))) (sym e))
+  of-line {a} {b} e w = (
+    w.0 ∙ ap (λ (n : ℕ). at + n) (sym (line-long (on_line a b))) ∙ ap (λ (x : Seg). at + length (sample_points x)) (sym e),
+    w.1
+        ∙ ap (λ (x : Seg). sets out₀ at (map row_of (map g (sample_points x)))) (sym e),
+  )
 
 -- a mouth has none, any other segment has its points
 module _ (mouths : List Edge) (s : Seg) {a b : Point} {t : Bool} (e : a ≡ start_of s) (f : b ≡ end_of s) (is : t ≡ is_mouth mouths (record { a = a; b = b })) where
@@ -136,7 +140,8 @@ module _ {ps : Parts} {o : Outlines} {out₀ out : List (List Float)} {at i : �
       (ends-count e m.rest ∙ zero-add _ ∙ length-map (mouths_of ps o) mouth_row, ends e m.rest)
 
 -- what `put_ends` asks of part i
-pub asks_ends : (rows : List (List Float)) {ps : Parts} {out₀ out : List (List Float)} {at i first : ℕ} → Mouths ps (outlines_in rows) out₀ out at i → FewParts ps → i < ps.count → first ≡ start_of_part ps i
+pub asks_ends : (rows : List (List Float)) {ps : Parts} {out₀ out : List (List Float)} {at i first : ℕ} → Mouths ps (outlines_in rows) out₀ out at i → FewParts ps
+    → i < ps.count → first ≡ start_of_part ps i
     → start_of_part ps ps.count ≤ length rows → 2 * start_of_part ps ps.count ≤ length out₀
     → (segs_of ps i ≤ 48) × (first + segs_of ps i ≤ length rows) × (at + silhouette_count (part_at ps i) ≤ length out)
 asks_ends rows {ps} {i = i} m few h e long l =

@@ -1,9 +1,9 @@
 -- Polygons, mouths, samples and material ask of the outlines the silhouettes alone. Assumes nothing.
 use Prim.Native.Nat.{ℕ, ◌≤◌}
 use native.Mathlib.Omega.{arith}
-use mathlib.Core.Path.{◌≡◌, sym, ap, ap₂, ◌∙◌}
+use mathlib.Core.Path.{◌≡◌, sym, ap, ap₂, subst, ◌∙◌}
 use mathlib.Core.Bool.{Bool, true, cond}
-use mathlib.Core.List.{List, ◌++◌, map}
+use mathlib.Core.List.{List, map}
 use lib.Ieee.{Float}
 use lib.ListN.{length}
 use lib.Seq.{sets}
@@ -23,11 +23,12 @@ use Rattle.bodies.specs.declared.pose.Pose.{Pose}
 use Rattle.silhouette.specs.Silhouette.{silhouette_at}
 use Rattle.silhouette.proofs.BySegment.{put-long, put_same}
 use Rattle.material.specs.Material.{Edge}
-use Rattle.drawing.specs.Drawing.{is_read_cut, drawn_points, placed_of, polygon_of, polygons_of, solid_in, cut_in, side_material, chosen_as, solids_of, cuts_of, rows_of, starts_of, room_for, room_from, counts_of}
+use Rattle.drawing.specs.Drawing.{Laid, is_read_cut, drawn_points, placed_of, polygon_of, polygons_of, solid_in, cut_in, side_material, chosen_as, solids_of, cuts_of}
+use Rattle.drawing.specs.Drawing.{room_for, room_from}
 use Rattle.drawing.specs.Samples.{ends_of, mouths_of, samples_of, part_samples}
 use Rattle.drawing.specs.declared.Chosen.{Chosen}
 use Rattle.drawing.specs.declared.Polygons.{Polygons}
-use Rattle.drawing.proofs.Draws.{has_room, room-from-here}
+use Rattle.drawing.proofs.Rooms.{has_room, room-from-here}
 
 module _ (ps : Parts) (o o' : Outlines) (same : (i : ℕ) → silhouette_at ps o i ≡ silhouette_at ps o' i) where
   polygon_same : (q : Pose) (i : ℕ) → polygon_of ps o q i ≡ polygon_of ps o' q i
@@ -54,8 +55,10 @@ module _ (ps : Parts) (o o' : Outlines) (same : (i : ℕ) → silhouette_at ps o
   side_same q u cuts = ap₂ (λ (x y : List (List Point)). record { solids = x; cuts = y }) (polygons_same q (solid_in ps u)) (polygons_same q (cut_in ps u cuts))
 
 -- ---- `draw` of outlines as a value: the rows into which the counted segments were put
-module _ (ps : Parts) (o : Outlines) (q : Pose) (c : Chosen) (points₀ : List (List Float)) (starts₀ : List ℕ) (l : List (List Float)) {k : ℕ} {rows : List (List Float)} (long : length o.seg ≡ 384) (room : length l ≡ 384)
-    (counted : (k ≡ segs_counted ps) × (k ≤ 384)) (put : rows ≡ cond (segs_fit k (length l)) (sets l 0 (seg_rows o k)) l) (fits : room_for ps (length points₀) (length starts₀) ≡ true) where
+module _ (ps : Parts) (o : Outlines) (q : Pose) (c : Chosen) (points₀ : List (List Float)) (starts₀ : List ℕ) (l : List (List Float)) {k : ℕ} {rows : List (List Float)}
+    (long : length o.seg ≡ 384) (room : length l ≡ 384)
+    (counted : (k ≡ segs_counted ps) × (k ≤ 384)) (put : rows ≡ cond (segs_fit k (length l)) (sets l 0 (seg_rows o k)) l)
+    (fits : room_for ps (length points₀) (length starts₀) ≡ true) where
   rows-384 : length rows ≡ 384
   rows-384 = let b = counted.1 in sym (rows_long rows) ∙ put-long ps o l long counted (omega (arith, b, room)) put ∙ room
 
@@ -71,19 +74,12 @@ module _ (ps : Parts) (o : Outlines) (q : Pose) (c : Chosen) (points₀ : List (
       room-from-here ps (length points₀) (length starts₀) (length rows) h.0 (omega (arith, t, n)) h.2 (omega (arith, t, e)) ∙ sym fits
 
   pub drawn-put : {r : Polygons} {points : List (List Float)} {st : List ℕ}
-      → (r ≡ counts_of (room_from ps (length points₀) (length starts₀) (length rows)) (solids_of ps (outlines_in rows) q c) (cuts_of ps (outlines_in rows) q c))
-      × (points ≡ cond (room_from ps (length points₀) (length starts₀) (length rows)) (sets points₀ 0 (rows_of (solids_of ps (outlines_in rows) q c ++ cuts_of ps (outlines_in rows) q c))) points₀)
-      × (st ≡ cond (room_from ps (length points₀) (length starts₀) (length rows)) (sets starts₀ 0 (starts_of (solids_of ps (outlines_in rows) q c ++ cuts_of ps (outlines_in rows) q c))) starts₀)
-      → (r ≡ counts_of (room_for ps (length points₀) (length starts₀)) (solids_of ps o q c) (cuts_of ps o q c))
-      × (points ≡ cond (room_for ps (length points₀) (length starts₀)) (sets points₀ 0 (rows_of (solids_of ps o q c ++ cuts_of ps o q c))) points₀)
-      × (st ≡ cond (room_for ps (length points₀) (length starts₀)) (sets starts₀ 0 (starts_of (solids_of ps o q c ++ cuts_of ps o q c))) starts₀)
-  drawn-put d =
+      → Laid (room_from ps (length points₀) (length starts₀) (length rows)) (solids_of ps (outlines_in rows) q c) (cuts_of ps (outlines_in rows) q c) points₀ starts₀ r points st
+      → Laid (room_for ps (length points₀) (length starts₀)) (solids_of ps o q c) (cuts_of ps o q c) points₀ starts₀ r points st
+  drawn-put {r} {points} {st} d =
+      let there = room_from ps (length points₀) (length starts₀) (length rows) in
       let a = polygons_same ps (outlines_in rows) o silhouettes q (chosen_as c 1) in
       let b = polygons_same ps (outlines_in rows) o silhouettes q (chosen_as c 2) in
-      let t = both-rooms in (
-        d.0 ∙ ap (λ (x : Bool). counts_of x (solids_of ps (outlines_in rows) q c) (cuts_of ps (outlines_in rows) q c)) t ∙ ap₂ (counts_of (room_for ps (length points₀) (length starts₀))) a b,
-        d.1 ∙ ap (λ (x : Bool). cond x (sets points₀ 0 (rows_of (solids_of ps (outlines_in rows) q c ++ cuts_of ps (outlines_in rows) q c))) points₀) t
-            ∙ ap₂ (λ (x y : List (List Point)). cond (room_for ps (length points₀) (length starts₀)) (sets points₀ 0 (rows_of (x ++ y))) points₀) a b,
-        d.2 ∙ ap (λ (x : Bool). cond x (sets starts₀ 0 (starts_of (solids_of ps (outlines_in rows) q c ++ cuts_of ps (outlines_in rows) q c))) starts₀) t
-            ∙ ap₂ (λ (x y : List (List Point)). cond (room_for ps (length points₀) (length starts₀)) (sets starts₀ 0 (starts_of (x ++ y))) starts₀) a b,
-      )
+      subst (λ (x : Bool). Laid x (solids_of ps o q c) (cuts_of ps o q c) points₀ starts₀ r points st) both-rooms
+      (subst (λ (x : List (List Point)). Laid there (solids_of ps o q c) x points₀ starts₀ r points st) b
+      (subst (λ (x : List (List Point)). Laid there x (cuts_of ps (outlines_in rows) q c) points₀ starts₀ r points st) a d))

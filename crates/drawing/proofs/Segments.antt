@@ -6,7 +6,7 @@ use mathlib.Core.Path.{◌≡◌, refl, sym, ap, ap₂, subst, ◌∙◌}
 use mathlib.Core.Bool.{Bool, true, false, cond}
 use mathlib.Core.List.{List, [], ◌∷◌, ◌++◌, map, map-append}
 use lib.Ieee.{Float}
-use lib.ListN.{length, take, drop, get_or, set, length-map, length-take}
+use lib.ListN.{length, take, drop, get_or, set, length-map, length-append, length-take}
 use lib.Seq.{sets, length-take-le, get_or-take}
 use Rattle.laws.specs.Lists.{flat}
 use Rattle.laws.specs.Loops.{Writing}
@@ -58,6 +58,9 @@ drawn-length s =
     let l = drawn-long s in
     length-take-le (drawn_of s).count (drawn_of s).points (omega arith)
 
+pub drawn-counted : {d : Drawn} (s : Seg) → d ≡ drawn_of s → d.count ≡ length (drawn_points s)
+drawn-counted s e = ap (λ (y : Drawn). y.count) e ∙ sym (drawn-length s)
+
 pub drawn-short : (s : Seg) → length (drawn_points s) ≤ 8
 drawn-short s = let h = drawn-count s in let l = drawn-length s in omega arith
 
@@ -98,7 +101,8 @@ pub record Places (b : ℕ) (f : Seg → List Point) (g : Point → Point) (l : 
 pub places_start : (b : ℕ) (f : Seg → List Point) (g : Point → Point) (l : List Seg) (out : List (List Float)) (at : ℕ) → Places b f g l out at out at 0
 places_start b f g l out at = record { far = omega arith; room = omega arith; rest = starts refl }
 
-module _ {b : ℕ} {f : Seg → List Point} {g : Point → Point} {l : List Seg} {out₀ : List (List Float)} {at₀ : ℕ} {out : List (List Float)} {at i : ℕ} (p : Places b f g l out₀ at₀ out at i) where
+module _ {b : ℕ} {f : Seg → List Point} {g : Point → Point} {l : List Seg} {out₀ : List (List Float)} {at₀ : ℕ} {out : List (List Float)} {at i : ℕ}
+    (p : Places b f g l out₀ at₀ out at i) where
   pub places_more : {s : Seg} {out' : List (List Float)} {at' : ℕ} → i < length l → s ≡ get_or l i no_line → ((s : Seg) → length (f s) ≤ b)
       → (at' ≡ at + length (f s)) × (out' ≡ sets out at (map row_of (map g (f s))))
       → Places b f g l out₀ at₀ out' at' (i + 1)
@@ -111,6 +115,16 @@ module _ {b : ℕ} {f : Seg → List Point} {g : Point → Point} {l : List Seg}
         room = omega arith;
         rest = appends-map row_of (map g (f s)) (map g (flat f (drop (i + 1) l))) (flat-turn l i g f h is) e.1 (e.0 ∙ ap (λ (k : ℕ). at + k) (sym (length-map (f s) g))) p.rest;
       }
+
+  pub places_room : {s : Seg} → i < length l → s ≡ get_or l i no_line → at₀ + length (flat f l) ≤ length out₀ → at + length (f s) ≤ length out
+  places_room {s} h is r =
+      let k = p.rest.counted in
+      let w = p.rest.long in
+      let t = ap length (flat-turn l i g f h is) ∙ length-append (map g (f s)) (map g (flat f (drop (i + 1) l))) in
+      let a = length-map (map g (flat f (drop i l))) row_of in
+      let b = length-map (f s) g in
+      let m = length-map (map g (flat f l)) row_of ∙ length-map (flat f l) g in
+      omega (arith, k, w, t, a, b, m, r)
 
   pub places_end : length l ≤ i → (at ≡ at₀ + length (flat f l)) × (out ≡ sets out₀ at₀ (map row_of (map g (flat f l))))
   places_end h =
@@ -189,7 +203,8 @@ module _ {A : Type 0} {out₀ : List A} {at₀ : ℕ} {all : List A} where
   pub first-row : {rest : List A} → rest ≡ all → Writing out₀ at₀ all out₀ (at₀ + 0) rest
   first-row {rest} e = subst (λ (k : ℕ). Writing out₀ at₀ all out₀ k rest) (sym (add-zero at₀)) (starts e)
 
-  pub next_row : {out : List A} (at k : ℕ) {a : A} {rest rest' : List A} → rest ≡ a ∷ rest' → Writing out₀ at₀ all out (at + k) rest → Writing out₀ at₀ all (set out (at + k) a) (at + (k + 1)) rest'
+  pub next_row : {out : List A} (at k : ℕ) {a : A} {rest rest' : List A} → rest ≡ a ∷ rest' → Writing out₀ at₀ all out (at + k) rest
+      → Writing out₀ at₀ all (set out (at + k) a) (at + (k + 1)) rest'
   next_row {out} at k {a} {rest' = rest'} e w = subst (λ (n : ℕ). Writing out₀ at₀ all (set out (at + k) a) n rest') (add_assoc at k 1) (puts e w)
 
 -- the points of a segment are written
@@ -200,14 +215,15 @@ drawn-end g {d} s {out₀} {out} {at} {k} e h l w =
     let n = (drawn-held s e).0 in
     let m = (drawn-held s e).1 in
     let z = rows-done g d.points d.count k (omega (arith, n, m)) l in
-    let x : d.count ≡ length (drawn_points s) = ap (λ (y : Drawn). y.count) e ∙ sym (drawn-length s) in
+    let x : d.count ≡ length (drawn_points s) = drawn-counted s e in
     (omega (arith, h, l, x), ends z w ∙ ap (λ (y : Drawn). sets out₀ at (map row_of (map g (take y.count y.points)))) e)
 
 -- ---- what is written of a silhouette, said of its part
 pub of_part : (f : Seg → List Point) (ps : Parts) (o : Outlines) (q : Pose) (i : ℕ) (at : ℕ) (out₀ : List (List Float)) {l : List Seg} {place : Placement} {r : ℕ} {out : List (List Float)}
     → l ≡ silhouette_at ps o i → place ≡ placed_of ps q i
     → (r ≡ at + length (flat f l)) × (out ≡ sets out₀ at (map row_of (map (world_of place) (flat f l))))
-    → (r ≡ at + length (map (world_of (placed_of ps q i)) (flat f (silhouette_at ps o i)))) × (out ≡ sets out₀ at (map row_of (map (world_of (placed_of ps q i)) (flat f (silhouette_at ps o i)))))
+    → (r ≡ at + length (map (world_of (placed_of ps q i)) (flat f (silhouette_at ps o i))))
+    × (out ≡ sets out₀ at (map row_of (map (world_of (placed_of ps q i)) (flat f (silhouette_at ps o i)))))
 of_part f ps o q i at out₀ s p w = (
   w.0 ∙ ap (λ (l : List Seg). at + length (flat f l)) s ∙ ap (λ (n : ℕ). at + n) (sym (length-map (flat f (silhouette_at ps o i)) (world_of (placed_of ps q i)))),
   w.1 ∙ ap₂ (λ (x : Placement) (l : List Seg). sets out₀ at (map row_of (map (world_of x) (flat f l)))) p s,

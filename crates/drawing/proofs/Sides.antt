@@ -19,7 +19,8 @@ use Rattle.mechanism.specs.declared.part.SurfaceRef.{SurfaceRef}
 use Rattle.drawing.specs.Drawing.{is_sampled, is_read_cut, ranges_in, body_of_side, on_side, is_own, has_own, solid_in, cut_in, what_is, side_chosen}
 
 -- the ranges that an array of four holds, by their indexes
-pub ranges_list : (p : SurfaceRef → Bool) (u : Surface) (n : ℕ) → length u.range ≡ 4 → (n ≤ 4) × (take n u.range ≡ take u.count u.range) → any p (list_in (range_at u) (n - 0) 0) ≡ any p (ranges_in u)
+pub ranges_list : (p : SurfaceRef → Bool) (u : Surface) (n : ℕ) → length u.range ≡ 4 → (n ≤ 4) × (take n u.range ≡ take u.count u.range)
+    → any p (list_in (range_at u) (n - 0) 0) ≡ any p (ranges_in u)
 ranges_list p u n k e =
     let h = e.0 in
     ap (λ (m : ℕ). any p (list_in (range_at u) m 0)) (sub-zero n) ∙ ap (any p) (list_as (range_at u) u.range no_range (λ i l. refl) n 0 (omega (arith, k, h)) ∙ e.1)

@@ -1,12 +1,13 @@
 -- The drawn material of parts at a pose (contact/rows.rs: `material`, `material_of`, `is_read`, `is_sampled`), and its polygons in lent arrays. Definitions only.
-use Rattle.std.specs.Prelude.{ℕ, ◌+◌, ◌*◌, Bool, true, false, not, ◌&&◌, ◌||◌, cond, List, [], ◌∷◌, ◌++◌, map, eqb, leb, length, take, get_or, Float}
+use Rattle.std.specs.Prelude.{ℕ, ◌+◌, ◌*◌, ◌≡◌, Bool, true, false, not, ◌&&◌, ◌||◌, cond, List, [], ◌∷◌, ◌++◌, map, eqb, leb, length, take, get_or, Float}
+use Rattle.std.proofs.lemmas.List.Edits.{sets}
 use Rattle.laws.specs.Lists.{list_in, flat, any}
 use Rattle.laws.specs.Loops.{filter_in}
 use Rattle.geometry.specs.Geometry.{drawn_of}
 use Rattle.geometry.specs.declared.Point.{Point}
 use Rattle.geometry.specs.declared.Seg.{Seg}
 use Rattle.mechanism.specs.Check.{parts_over}
-use Rattle.mechanism.specs.Description.{sum_in, part_at, range_at, segs_of}
+use Rattle.mechanism.specs.Description.{part_at, range_at}
 use Rattle.mechanism.specs.Segments.{segs_counted}
 use Rattle.bodies.specs.Pose.{placement_at, world_of}
 use Rattle.mechanism.specs.declared.Outlines.{Outlines}
@@ -20,8 +21,9 @@ use Rattle.bodies.specs.declared.pose.Placement.{Placement}
 use Rattle.bodies.specs.declared.pose.Pose.{Pose}
 use Rattle.silhouette.specs.Silhouette.{in_the_section, silhouette_at}
 use Rattle.material.specs.Material.{Material}
+use Rattle.material.specs.declared.DrawnMaterial.{DrawnMaterial}
 use Rattle.drawing.specs.declared.Chosen.{Chosen}
-use Rattle.drawing.specs.declared.Cursor.{Cursor}
+use Rattle.drawing.specs.declared.outlined.Cursor.{Cursor}
 use Rattle.drawing.specs.declared.Polygons.{Polygons}
 
 -- ---- which parts the overlap readings read
@@ -118,15 +120,16 @@ ends_from a (p ∷ polys) = (a + length p) ∷ ends_from (a + length p) polys
 abbrev pub starts_of : List (List Point) → List ℕ
 starts_of polys = 0 ∷ ends_from 0 polys
 
+-- the polygons of those of n parts that are chosen as w, in order
+abbrev pub chosen_polygons : (ℕ → List Point) → ℕ → Chosen → ℕ → List (List Point)
+chosen_polygons polygon n c w = map polygon (filter_in (chosen_as c w) n 0)
+
+-- what `Polygons::held` lends of arrays
+abbrev pub Held : Polygons → List (List Float) → List ℕ → DrawnMaterial → Type 0
+Held n points starts m = (m.points.now ≡ take n.points points) × (m.starts.now ≡ take (n.all + 1) starts) × (m.solids ≡ n.solids) × (m.all ≡ n.all)
+
 abbrev pub cursor_after : Cursor → List (List Point) → Cursor
 cursor_after c polys = record { at = c.at + length (flat same polys); count = c.count + length polys }
-
--- how many segments, and how many parts, are chosen as w among the first k
-abbrev pub chosen_segs : Parts → Chosen → ℕ → ℕ → ℕ
-chosen_segs ps c w k = sum_in (λ i. cond (chosen_as c w i) (segs_of ps i) 0) k 0
-
-abbrev pub chosen_count : Chosen → ℕ → ℕ → ℕ
-chosen_count c w k = sum_in (λ i. cond (chosen_as c w i) 1 0) k 0
 
 -- the arrays have room for any parts that pass no limit
 abbrev pub room_for : Parts → ℕ → ℕ → Bool
@@ -143,3 +146,10 @@ room_from ps points starts segs = not (parts_over ps) && (leb (drawn_most ps) po
 abbrev pub counts_of : Bool → List (List Point) → List (List Point) → Polygons
 counts_of true solids cuts = record { solids = length solids; all = length solids + length cuts; points = length (flat same (solids ++ cuts)) }
 counts_of false solids cuts = record { solids = 0; all = 0; points = 0 }
+
+-- what is drawn of solids and cuts where there is room for them: how many there are, their points, and where each of them starts; nothing where there is none
+abbrev pub Laid : Bool → List (List Point) → List (List Point) → List (List Float) → List ℕ → Polygons → List (List Float) → List ℕ → Type 0
+Laid there solids cuts points₀ starts₀ n points starts =
+    (n ≡ counts_of there solids cuts)
+    × (points ≡ cond there (sets points₀ 0 (rows_of (solids ++ cuts))) points₀)
+    × (starts ≡ cond there (sets starts₀ 0 (starts_of (solids ++ cuts))) starts₀)

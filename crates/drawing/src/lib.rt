@@ -1,29 +1,32 @@
 // The drawn material of parts at a pose, as polygons in lent arrays (contact/rows.rs: `material`, `is_read`, `is_sampled`).
 #![tactic(auto)]
 
-ghost use Rattle.std.specs.Prelude.{◌≡◌, cond, ◌++◌, map, ◌+◌, ◌*◌, ◌<◌, ◌≤◌, length, take};
+ghost use Rattle.std.specs.Prelude.{◌≡◌, map, ◌+◌, ◌≤◌, length, take};
 ghost use Rattle.std.proofs.lemmas.List.Edits.{sets};
 ghost use Rattle.laws.specs.Lists.{flat};
 ghost use Rattle.mechanism.specs.Check.{FewParts};
 ghost use Rattle.mechanism.specs.Description.{start_of_part};
 ghost use Rattle.mechanism.specs.Segments.{outlines_in};
 ghost use Rattle.bodies.specs.Pose.{world_of};
-ghost use Rattle.silhouette.specs.Silhouette.{silhouette_from, silhouette_count};
-ghost use Rattle.drawing.specs.Drawing.{is_cut, is_sampled, is_read_cut, drawn_points, polygons_of, body_of_side, is_own, has_own, what_is, side_chosen, chosen_as, solids_of, cuts_of, chosen_segs, chosen_count, row_of, rows_of, ends_from, starts_of, cursor_after, room_for, room_from, counts_of};
+ghost use Rattle.silhouette.specs.Silhouette.{silhouette_from};
+ghost use Rattle.drawing.specs.Drawing.{is_cut, is_sampled, is_read_cut, body_of_side, is_own, has_own, what_is, side_chosen};
+ghost use Rattle.drawing.specs.Drawing.{drawn_points, polygon_of, solids_of, cuts_of, Laid, Held, row_of, room_for, room_from};
 
+mod outlined;
 pub mod prepared;
 pub mod samples;
 
 use bodies::pose::{Placement, Pose, placement_at};
 use geometry::{Drawn, Point, Seg};
-use material::Spot;
+use material::{DrawnMaterial, Spot};
 use mechanism::check::{parts_over, segs_counted};
 use mechanism::pair::Surface;
 use mechanism::part::{Part, Role, SurfaceRef, Sweep};
 use mechanism::segments::{SegRow, put_segs};
 use mechanism::{Outlines, Parts};
-use silhouette::is_in_the_section;
+use outlined::{Outlined, draw_chosen};
 use silhouette::rows::{silhouette_count, silhouette_seg};
+use silhouette::{is_in_the_section, start_of_part};
 
 // What each part is to a material: 1 a solid of it, 2 a cut of it, 0 neither.
 #[derive(Clone, Copy)]
@@ -37,6 +40,30 @@ pub struct Polygons {
     pub solids: usize,
     pub all: usize,
     pub points: usize,
+}
+
+fn no_polygons() -> Polygons
+    ensures { result ≡ record { solids = 0; all = 0; points = 0 } }
+{
+    Polygons {
+        solids: 0,
+        all: 0,
+        points: 0,
+    }
+}
+
+impl Polygons {
+    // The material whose polygons stand at the front of lent arrays.
+    pub fn held<'a>(self, points: &'a [Spot], starts: &'a [usize]) -> DrawnMaterial<'a>
+        ensures { Held self points.entry.now starts.entry.now result }
+    {
+        DrawnMaterial {
+            points: &points[..self.points.min(points.len())],
+            starts: &starts[..self.all.saturating_add(1).min(starts.len())],
+            solids: self.solids,
+            all: self.all,
+        }
+    }
 }
 
 // ---- which parts the overlap readings read
@@ -153,7 +180,7 @@ pub fn side_chosen(ps: Parts, u: Surface, cuts: bool) -> Chosen
 
 // Writes the points of a segment as it is drawn, placed, from `at` on.
 fn draw_seg(points: &mut [Spot], at: usize, s: Seg, place: Placement) -> usize
-    requires { at + 8 ≤ length points.old }
+    requires { at + length (drawn_points s) ≤ length points.old }
     ensures { (result ≡ at + length (drawn_points s)) × (points.new ≡ sets points.old at (map row_of (map (world_of place) (drawn_points s)))) }
 {
     let d = s.drawn();
@@ -173,8 +200,9 @@ fn draw_polygon(
     p: Part,
     place: Placement,
 ) -> usize
-    requires { (p.segs ≤ 48) × (first + p.segs ≤ length segs.now) × (at + 8 * silhouette_count p ≤ length points.old) }
-    ensures { (result ≡ at + length (flat drawn_points (silhouette_from (outlines_in segs.now) first p))) × (points.new ≡ sets points.old at (map row_of (map (world_of place) (flat drawn_points (silhouette_from (outlines_in segs.now) first p))))) }
+    requires { (p.segs ≤ 48) × (first + p.segs ≤ length segs.now) × (at + length (flat drawn_points (silhouette_from (outlines_in segs.now) first p)) ≤ length points.old) }
+    ensures { let drawn = flat drawn_points (silhouette_from (outlines_in segs.now) first p) in
+        (result ≡ at + length drawn) × (points.new ≡ sets points.old at (map row_of (map (world_of place) drawn))) }
 {
     let mut to = at;
     for i in 0..silhouette_count(p) {
@@ -183,40 +211,41 @@ fn draw_polygon(
     to
 }
 
-// Where the next polygon goes: behind `at` points and `count` polygons.
+// Parts with their outlines in rows, at a pose.
 #[derive(Clone, Copy)]
-struct Cursor {
-    at: usize,
-    count: usize,
+struct PlacedParts<'a> {
+    parts: &'a Parts,
+    segs: &'a [SegRow],
+    q: Pose,
+
+    ghost few: { FewParts parts.now },
+
+    ghost there: { start_of_part parts.now parts.now.count ≤ length segs.now },
 }
 
-// Writes the polygons of the parts chosen as w, in order, behind those that are there.
-fn draw_all(
-    points: &mut [Spot],
-    starts: &mut [usize],
-    ps: Parts,
-    segs: &[SegRow],
-    q: Pose,
-    c: Chosen,
-    w: u8,
-    from: Cursor,
-) -> Cursor
-    requires { FewParts ps × (start_of_part ps ps.count ≤ length segs.now) × (from.at + 16 * chosen_segs ps c w ps.count ≤ length points.old) × (from.count + chosen_count c w ps.count < length starts.old) }
-    ensures { (result ≡ cursor_after from (polygons_of ps (outlines_in segs.now) q (chosen_as c w))) × (points.new ≡ sets points.old from.at (rows_of (polygons_of ps (outlines_in segs.now) q (chosen_as c w)))) × (starts.new ≡ sets starts.old (from.count + 1) (ends_from from.at (polygons_of ps (outlines_in segs.now) q (chosen_as c w)))) }
-{
-    let mut first = 0;
-    let mut at = from.at;
-    let mut k = from.count;
-    for i in 0..ps.count {
-        let p = ps.part[i];
-        if c.what[i] == w {
-            at = draw_polygon(points, at, segs, first, p, placement_at(q, p.body));
-            k += 1;
-            starts[k] = at;
-        }
-        first += p.segs;
+impl Outlined for PlacedParts<'_> {
+    ghost count = { λ s. s.parts.now.count };
+
+    ghost polygon = { λ s. polygon_of s.parts.now (outlines_in s.segs.now) s.q };
+
+    ghost few = { λ s. s.few.count };
+
+    fn count(&self) -> usize {
+        self.parts.count
     }
-    Cursor { at, count: k }
+
+    fn draw_part(&self, points: &mut [Spot], at: usize, i: usize) -> usize {
+        let p = self.parts.part[i];
+        let first = start_of_part(*self.parts, i);
+        draw_polygon(
+            points,
+            at,
+            self.segs,
+            first,
+            p,
+            placement_at(self.q, p.body),
+        )
+    }
 }
 
 fn room_from(ps: Parts, points: usize, starts: usize, segs: usize) -> bool
@@ -231,32 +260,23 @@ fn room_from(ps: Parts, points: usize, starts: usize, segs: usize) -> bool
 pub fn draw_from(
     points: &mut [Spot],
     starts: &mut [usize],
-    ps: Parts,
+    ps: &Parts,
     segs: &[SegRow],
     q: Pose,
     c: Chosen,
 ) -> Polygons
-    ensures { (result ≡ counts_of (room_from ps (length points.old) (length starts.old) (length segs.now)) (solids_of ps (outlines_in segs.now) q c) (cuts_of ps (outlines_in segs.now) q c)) × (points.new ≡ cond (room_from ps (length points.old) (length starts.old) (length segs.now)) (sets points.old 0 (rows_of (solids_of ps (outlines_in segs.now) q c ++ cuts_of ps (outlines_in segs.now) q c))) points.old) × (starts.new ≡ cond (room_from ps (length points.old) (length starts.old) (length segs.now)) (sets starts.old 0 (starts_of (solids_of ps (outlines_in segs.now) q c ++ cuts_of ps (outlines_in segs.now) q c))) starts.old) }
+    ensures { let there = room_from ps.now (length points.old) (length starts.old) (length segs.now) in
+        let o = outlines_in segs.now in
+        Laid there (solids_of ps.now o q c) (cuts_of ps.now o q c) points.old starts.old result points.new starts.new }
 {
     let n = points.len();
     let m = starts.len();
     let l = segs.len();
-    if room_from(ps, n, m, l) {
-        starts[0] = 0;
-        let first = Cursor { at: 0, count: 0 };
-        let solids = draw_all(points, starts, ps, segs, q, c, 1, first);
-        let all = draw_all(points, starts, ps, segs, q, c, 2, solids);
-        return Polygons {
-            solids: solids.count,
-            all: all.count,
-            points: all.at,
-        };
+    if room_from(*ps, n, m, l) {
+        let placed = PlacedParts { parts: ps, segs, q };
+        return draw_chosen(points, starts, &placed, c);
     }
-    Polygons {
-        solids: 0,
-        all: 0,
-        points: 0,
-    }
+    no_polygons()
 }
 
 fn room_for(ps: Parts, points: usize, starts: usize) -> bool
@@ -274,18 +294,15 @@ pub fn draw(
     q: Pose,
     c: Chosen,
 ) -> Polygons
-    ensures { (result ≡ counts_of (room_for ps (length points.old) (length starts.old)) (solids_of ps o q c) (cuts_of ps o q c)) × (points.new ≡ cond (room_for ps (length points.old) (length starts.old)) (sets points.old 0 (rows_of (solids_of ps o q c ++ cuts_of ps o q c))) points.old) × (starts.new ≡ cond (room_for ps (length points.old) (length starts.old)) (sets starts.old 0 (starts_of (solids_of ps o q c ++ cuts_of ps o q c))) starts.old) }
+    ensures { let there = room_for ps (length points.old) (length starts.old) in
+        Laid there (solids_of ps o q c) (cuts_of ps o q c) points.old starts.old result points.new starts.new }
 {
     let n = points.len();
     let m = starts.len();
     if room_for(ps, n, m) {
         let mut segs = [[0.0; 8]; 384];
         put_segs(&mut segs, o, segs_counted(ps));
-        return draw_from(points, starts, ps, &segs, q, c);
+        return draw_from(points, starts, &ps, &segs, q, c);
     }
-    Polygons {
-        solids: 0,
-        all: 0,
-        points: 0,
-    }
+    no_polygons()
 }

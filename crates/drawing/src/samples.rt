@@ -31,7 +31,8 @@ pub type SegSpots = [Spot; 17];
 // Writes the ends of the segments of the silhouette of a part whose outline starts in row `first`, from `at` on.
 fn put_ends(mouths: &mut [Mouth], at: usize, segs: &[SegRow], first: usize, p: Part) -> usize
     requires { (p.segs ≤ 48) × (first + p.segs ≤ length segs.now) × (at + silhouette_count p ≤ length mouths.old) }
-    ensures { (result ≡ at + length (silhouette_from (outlines_in segs.now) first p)) × (mouths.new ≡ sets mouths.old at (map mouth_row (map ends_of (silhouette_from (outlines_in segs.now) first p)))) }
+    ensures { let sil = silhouette_from (outlines_in segs.now) first p in
+        (result ≡ at + length sil) × (mouths.new ≡ sets mouths.old at (map mouth_row (map ends_of sil))) }
 {
     let n = silhouette_count(p);
     for i in 0..n {
@@ -69,7 +70,9 @@ fn mouth_room(ps: Parts, room: usize, segs: usize) -> bool
 // Writes the ends of every segment of every cut in the section; nothing where a limit is passed, the array is too short or a segment is not there.
 #[tactic(auto, using(crate::proofs::Mouths::has_mouth_room))]
 pub fn draw_mouths(mouths: &mut [Mouth], ps: Parts, segs: &[SegRow]) -> usize
-    ensures { (result ≡ cond (mouth_room ps (length mouths.old) (length segs.now)) (length (mouths_of ps (outlines_in segs.now))) 0) × (mouths.new ≡ cond (mouth_room ps (length mouths.old) (length segs.now)) (sets mouths.old 0 (map mouth_row (mouths_of ps (outlines_in segs.now)))) mouths.old) }
+    ensures { let there = mouth_room ps (length mouths.old) (length segs.now) in
+        let all = mouths_of ps (outlines_in segs.now) in
+        (result ≡ cond there (length all) 0) × (mouths.new ≡ cond there (sets mouths.old 0 (map mouth_row all)) mouths.old) }
 {
     let n = mouths.len();
     let l = segs.len();
@@ -148,7 +151,8 @@ fn put_seg(samples: &mut [Spot], at: usize, s: Seg, place: Placement, mouths: &[
 
 // Writes the samples of a segment, placed, to the front.
 pub fn seg_samples(samples: &mut SegSpots, s: Seg, place: Placement, mouths: &[Mouth]) -> usize
-    ensures { (result ≡ length (samples_of (mouths_in mouths.now) s)) × (samples.new ≡ sets samples.old 0 (map row_of (map (world_of place) (samples_of (mouths_in mouths.now) s)))) × (result ≤ 17) }
+    ensures { let points = samples_of (mouths_in mouths.now) s in
+        (result ≡ length points) × (samples.new ≡ sets samples.old 0 (map row_of (map (world_of place) points))) × (result ≤ 17) }
 {
     put_seg(samples, 0, s, place, mouths)
 }

@@ -34,8 +34,8 @@ module _ (a0 a1 n b0 b1 : Point) (d : Float) {t0 t1 : Float} (p : t0 ≡ along_o
   end = (one_f ⊖ t0) ⊘ (t1 ⊖ t0)
 
   -- the part over A's face is taken
-  pub over_part : {u lo v hi r : Float} → differ ≡ true → u ≡ min_of start end → lo ≡ max_of zero_f u → v ≡ max_of start end → hi ≡ min_of one_f v → r ≡ within_of a0 n b0 b1 d lo hi
-      → r ≡ over_of a0 a1 n b0 b1 d
+  pub over_part : {u lo v hi r : Float} → differ ≡ true → u ≡ min_of start end → lo ≡ max_of zero_f u → v ≡ max_of start end → hi ≡ min_of one_f v
+      → r ≡ within_of a0 n b0 b1 d lo hi → r ≡ over_of a0 a1 n b0 b1 d
   over_part h e f g i w =
       w ∙ ap₂ (within_of a0 n b0 b1 d) (f ∙ ap (max_of zero_f) e) (i ∙ ap (min_of one_f) g)
       ∙ sym (cond_yes _ _ (sym (not_zero (t1 ⊖ t0)) ∙ h)) ∙ is_cut
@@ -54,7 +54,8 @@ pub past-taken : (a0 a1 n : Point) (place : Placement) (d : Float) (f : Face) {b
 past-taken a0 a1 n place d f p q e = sym (e ∙ ap₂ (λ (x : Point) (y : Point). over_of a0 a1 n x y d) p q)
 
 -- one face of A, as the code reads it: its ends a0 and a1, the square e2 of its length, and whether it has a length
-module _ (pa pb : Placement) (fs : List Face) (d : Float) (f : Face) {a0 a1 e : Point} {e2 : Float} {long : Bool} (p : a0 ≡ world_of pa f.a) (q : a1 ≡ world_of pa f.b) (r : e ≡ sub_of a1 a0) (s : e2 ≡ dot_of e e) (t : long ≡ is_long e2) where
+module _ (pa pb : Placement) (fs : List Face) (d : Float) (f : Face) {a0 a1 e : Point} {e2 : Float} {long : Bool}
+    (p : a0 ≡ world_of pa f.a) (q : a1 ≡ world_of pa f.b) (r : e ≡ sub_of a1 a0) (s : e2 ≡ dot_of e e) (t : long ≡ is_long e2) where
   abbrev spans : Point → Point → Bool
   spans x y = is_long (dot_of (sub_of y x) (sub_of y x))
 
@@ -65,7 +66,8 @@ module _ (pa pb : Placement) (fs : List Face) (d : Float) (f : Face) {a0 a1 e : 
   pub step-taken : {v n : Point} {x : Float} → long ≡ true → v ≡ vector_of f.normal → n ≡ rotate_of pa v → x ≡ foldl (past_of a0 a1 n pb) d fs → step_of pa pb fs d f ≡ x
   step-taken {v} {n} h u w g =
       cond_yes _ _ (sym long-is ∙ h)
-      ∙ sym (g ∙ ap₂ (λ (x : Point) (y : Point). foldl (past_of x y n pb) d fs) p q ∙ ap (λ (x : Point). foldl (past_of (world_of pa f.a) (world_of pa f.b) x pb) d fs) (w ∙ ap (rotate_of pa) u))
+      ∙ sym (g ∙ ap₂ (λ (x : Point) (y : Point). foldl (past_of x y n pb) d fs) p q
+      ∙ ap (λ (x : Point). foldl (past_of (world_of pa f.a) (world_of pa f.b) x pb) d fs) (w ∙ ap (rotate_of pa) u))
 
   -- it is passed over
   pub step_left : long ≡ false → step_of pa pb fs d f ≡ d

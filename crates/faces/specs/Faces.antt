@@ -1,5 +1,5 @@
 -- How far side B's drawn faces stand past side A's (contact/bearing.rs: `face_overlap`), in the Rust's order of operations. Definitions only.
-use Rattle.std.specs.Prelude.{ℕ, Bool, true, not, ◌&&◌, ◌||◌, cond, List, map, ltb, take, Float, Result}
+use Rattle.std.specs.Prelude.{ℕ, Bool, true, not, ◌&&◌, ◌||◌, cond, List, map, ltb, Float, Result}
 use Rattle.std.specs.Float.Ieee.{lt, le, neg, is_nan}
 use Rattle.laws.specs.Lists.{foldl}
 use Rattle.ieee.specs.Consts.{zero_f, one_f}
@@ -16,6 +16,7 @@ use Rattle.mechanism.specs.declared.Mechanism.{Mechanism}
 use Rattle.bodies.specs.declared.pose.Placement.{Placement}
 use Rattle.bodies.specs.declared.pose.Pose.{Pose}
 use Rattle.sides.specs.Contacts.{pair_features}
+use Rattle.sides.specs.Features.{faces_in as placed_faces}
 use Rattle.sides.specs.declared.PlacedFace.{PlacedFace}
 use Rattle.sides.specs.declared.SideFeatures.{SideFeatures}
 use Rattle.sides.specs.declared.contacts.PairFeatures.{PairFeatures}
@@ -68,9 +69,9 @@ faces_overlap fa placeA fb placeB = foldl (step_of placeA placeB fb) zero_f fa
 abbrev pub face_of : PlacedFace → Face
 face_of p = p.face
 
--- the faces of a side; an array of twelve holds no more
+-- the faces of a side
 abbrev pub faces_in : SideFeatures → List Face
-faces_in s = map face_of (take s.faces s.face)
+faces_in s = map face_of (placed_faces s)
 
 unfoldable pub sides_overlap : PairFeatures → Pose → Float
 sides_overlap p q = faces_overlap (faces_in p.a) (placement_at q p.a.body) (faces_in p.b) (placement_at q p.b.body)

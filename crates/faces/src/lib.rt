@@ -1,7 +1,7 @@
 // How far side B's drawn faces stand past side A's (contact/bearing.rs: `face_overlap`).
 #![tactic(auto)]
 
-ghost use Rattle.std.specs.Prelude.{◌≡◌, ◌<◌, ◌≤◌, take};
+ghost use Rattle.std.specs.Prelude.{◌≡◌, ◌<◌};
 ghost use Rattle.laws.specs.Lists.{foldl};
 ghost use Rattle.mechanism.specs.Description.{pair_at};
 ghost use Rattle.faces.specs.Faces.{along_of, reach_of, within_of, over_of, past_of, is_long, faces_in, faces_overlap, sides_overlap, face_overlap_answer};
@@ -16,8 +16,8 @@ use ieee::num::{is_nan, max, min};
 use mechanism::check::call_checked;
 use mechanism::pair::ContactPair;
 use mechanism::{Mechanism, Pairs};
-use sides::SideFeatures;
 use sides::contacts::{PairFeatures, pair_features_at};
+use sides::held::Side;
 
 // Where the projection of p falls along the segment from a to b, 0 at its start and 1 at its end.
 pub fn along(p: Point, a: Point, b: Point) -> f64
@@ -70,20 +70,13 @@ fn over(a0: Point, a1: Point, n: Point, b0: Point, b1: Point, deepest: f64) -> f
     deepest
 }
 
-// How many faces an array of twelve holds.
-fn faces(s: SideFeatures) -> usize
-    ensures { (result ≤ 12) × (take result s.face ≡ take s.faces s.face) }
-{
-    s.faces.min(12)
-}
-
 // All faces of B, placed, against A's face from a0 to a1.
-fn past(a0: Point, a1: Point, n: Point, b: SideFeatures, place: Placement, deepest: f64) -> f64
-    ensures { result ≡ foldl (past_of a0 a1 n place) deepest (faces_in b) }
+fn past<S: Side>(a0: Point, a1: Point, n: Point, b: &S, place: Placement, deepest: f64) -> f64
+    ensures { result ≡ foldl (past_of a0 a1 n place) deepest (faces_in (S.features b.now)) }
 {
     let mut d = deepest;
-    for i in 0..faces(b) {
-        let f = b.face[i].face;
+    for i in 0..b.faces() {
+        let f = b.face(i).face;
         d = over(a0, a1, n, place.world(f.a), place.world(f.b), d);
     }
     d
@@ -97,12 +90,12 @@ fn is_long(e2: f64) -> bool
 }
 
 // The deepest point of a face of B, within the span of a face of A, on the material side of that face's line; zero where none is.
-fn faces_overlap(a: SideFeatures, pa: Placement, b: SideFeatures, pb: Placement) -> f64
-    ensures { result ≡ faces_overlap (faces_in a) pa (faces_in b) pb }
+fn faces_overlap<S: Side>(a: &S, pa: Placement, b: &S, pb: Placement) -> f64
+    ensures { result ≡ faces_overlap (faces_in (S.features a.now)) pa (faces_in (S.features b.now)) pb }
 {
     let mut deepest = 0.0;
-    for i in 0..faces(a) {
-        let f = a.face[i].face;
+    for i in 0..a.faces() {
+        let f = a.face(i).face;
         let a0 = pa.world(f.a);
         let a1 = pa.world(f.b);
         let e = sub(a1, a0);
@@ -113,17 +106,19 @@ fn faces_overlap(a: SideFeatures, pa: Placement, b: SideFeatures, pb: Placement)
     deepest
 }
 
-// The same of a pair's sides at a pose.
+// The same of two sides at a pose.
 #[tactic(auto, unfolding(crate::specs::Faces::sides_overlap))]
+fn overlap_of<S: Side>(a: &S, b: &S, q: Pose) -> f64
+    ensures { result ≡ sides_overlap (record { a = S.features a.now; b = S.features b.now }) q }
+{
+    faces_overlap(a, placement_at(q, a.body()), b, placement_at(q, b.body()))
+}
+
+// The same of a pair's features.
 pub fn sides_overlap(p: PairFeatures, q: Pose) -> f64
     ensures { result ≡ sides_overlap p q }
 {
-    faces_overlap(
-        p.a,
-        placement_at(q, p.a.body),
-        p.b,
-        placement_at(q, p.b.body),
-    )
+    overlap_of(&p.a, &p.b, q)
 }
 
 fn pair_at(pairs: Pairs, i: usize) -> ContactPair

@@ -211,12 +211,10 @@ fn replay<R: Read, W: Write>(input: &mut R, out: &mut W) -> io::Result<bool> {
 }
 
 fn main(rt: HostRuntime) -> io::Result<()> {
-    let mut input = rt.stdin();
-    let mut out = BufWriter::new(rt.alloc(), rt.stdout())?;
-    for _ in 0..100000 {
-        if !replay(&mut input, &mut out)? {
-            break;
-        }
-    }
-    out.flush()
+    streams::repeat(
+        &mut rt.stdin(),
+        &mut BufWriter::new(rt.alloc(), rt.stdout())?,
+        100000,
+        replay,
+    )
 }

@@ -90,7 +90,8 @@ module _ (pair : ℕ → ℕ) (gap : ℕ → Float) where
       go false = refl
   least_step p (Some a) j = go (eqb (pair j) p) (lt (gap j) (gap a))
     where
-      go : (t u : Bool) → cond t (cond u (Some (record { at = j; gap = gap j })) (Some (record { at = a; gap = gap a }))) (Some (record { at = a; gap = gap a })) ≡ with_gap gap (cond (t && u) (Some j) (Some a))
+      go : (t u : Bool) → cond t (cond u (Some (record { at = j; gap = gap j })) (Some (record { at = a; gap = gap a }))) (Some (record { at = a; gap = gap a }))
+          ≡ with_gap gap (cond (t && u) (Some j) (Some a))
       go true true = refl
       go true false = refl
       go false u = refl

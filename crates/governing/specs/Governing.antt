@@ -1,11 +1,13 @@
 -- The governing row of a pair (contact/rows.rs: `of_pair`, `governing`, `gap`), and one row's gradient or slip by its number (`grad`, `slip`). Records are given by functions of their
 -- number: the pair that they name, and their gap. Definitions only.
-use Rattle.std.specs.Prelude.{ℕ, ◌+◌, ◌*◌, ◌<◌, ◌≡◌, Bool, ◌&&◌, cond, List, [], ◌∷◌, T, eqb, leb, ltb, length, take, drop, Float, Option, Some, None, option_map, Result, Ok, Err}
+use Rattle.std.specs.Prelude.{ℕ, ◌+◌, ◌*◌, ◌<◌, ◌≡◌, Bool, ◌&&◌, cond, List, [], ◌∷◌, T, eqb, leb, ltb, length, take, drop}
+use Rattle.std.specs.Prelude.{Float, Option, Some, None, option_map, Result, Ok, Err}
 use Rattle.std.specs.Float.{nan}
 use Rattle.std.specs.Float.Ieee.{lt, eq}
 use Rattle.laws.specs.Fill.{filled}
 use Rattle.laws.specs.Loops.{fold_in}
 use Rattle.ieee.specs.Consts.{zero_f}
+use Rattle.mechanism.specs.Rows.{pair_in, gap_in}
 use Rattle.bodies.specs.declared.Problem.TheVariants.{NoSuchThing}
 use Rattle.bodies.specs.declared.Problem.{Problem}
 use Rattle.governing.specs.declared.Smallest.{Smallest}
@@ -65,6 +67,10 @@ lesser a b = cond (ltb a b) a b
 
 abbrev pub records_in : ℕ → ℕ → ℕ → ℕ
 records_in n places values = lesser n (lesser places values)
+
+-- the governing row among the first n, or among those that there are
+abbrev pub governing_in : List (List ℕ) → List (List Float) → ℕ → ℕ → Option ℕ
+governing_in places values n p = governing_of (pair_in places) (gap_in values) (records_in n (length places) (length values)) p
 
 -- ---- one row's entries among those of n rows: 12 where there is no such row, or more coordinates than a description has, or too few entries
 abbrev pub row_there : (entries coords n i : ℕ) → Bool

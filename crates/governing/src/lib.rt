@@ -1,12 +1,12 @@
 // The governing row of a pair (contact/rows.rs: `governing`, `gap`), and one row's gradient or slip by its number (`grad`, `slip`), of rows in lent arrays.
 #![tactic(auto)]
 
-ghost use Rattle.std.specs.Prelude.{◌≡◌, ◌≤◌, length};
+ghost use Rattle.std.specs.Prelude.{◌≡◌, length};
 ghost use Rattle.mechanism.specs.Rows.{pair_in, gap_in};
-ghost use Rattle.governing.specs.Governing.{governing_of, gap_of, lesser_gap, least_gap, row_of_best, gap_of_best, lesser, records_in, row_there, row_entries};
+ghost use Rattle.governing.specs.Governing.{gap_of, lesser_gap, least_gap, row_of_best, gap_of_best, lesser, records_in, governing_in, row_there, row_entries};
 
 use bodies::Problem;
-use mechanism::rows::{Place, Value};
+use mechanism::rows::ReadRows;
 
 // The smallest gap so far, with its row's number.
 #[derive(Clone, Copy)]
@@ -68,34 +68,40 @@ pub fn gap_of_best(best: Option<Smallest>) -> Option<f64>
 
 // ---- of rows in lent arrays
 
-// The smallest gap of a pair's rows among the first n.
-fn walked(places: &[Place], values: &[Value], n: usize, pair: usize) -> Option<Smallest>
-    requires { (n ≤ length places.now) × (n ≤ length values.now) }
-    ensures { (row_of_best result ≡ governing_of (pair_in places.now) (gap_in values.now) n pair) × (gap_of_best result ≡ gap_of (pair_in places.now) (gap_in values.now) (governing_of (pair_in places.now) (gap_in values.now) n pair)) }
+// How many of the first rows there are.
+pub fn records_in(rows: &ReadRows) -> usize
+    ensures { result ≡ records_in rows.now.count (length rows.now.places.now) (length rows.now.values.now) }
 {
+    least(rows.count, least(rows.places.len(), rows.values.len()))
+}
+
+// The smallest gap of a pair's rows.
+fn walked(rows: &ReadRows, pair: usize) -> Option<Smallest>
+    ensures row { row_of_best result ≡ governing_in rows.now.places.now rows.now.values.now rows.now.count pair }
+    ensures gap { gap_of_best result ≡ gap_of (pair_in rows.now.places.now) (gap_in rows.now.values.now) (governing_in rows.now.places.now rows.now.values.now rows.now.count pair) }
+{
+    let n = records_in(rows);
     let mut best = None;
     for i in 0..n {
-        if places[i][0] == pair {
-            best = lesser_gap(best, i, values[i][0]);
+        if rows.places[i][0] == pair {
+            best = lesser_gap(best, i, rows.values[i][0]);
         }
     }
     best
 }
 
-// The governing row of a pair among the first n rows, or among those that there are: the first of its smallest gap.
-pub fn governing_in(places: &[Place], values: &[Value], n: usize, pair: usize) -> Option<usize>
-    ensures { result ≡ governing_of (pair_in places.now) (gap_in values.now) (records_in n (length places.now) (length values.now)) pair }
+// The governing row of a pair among the rows: the first of its smallest gap.
+pub fn governing_in(rows: &ReadRows, pair: usize) -> Option<usize>
+    ensures { result ≡ governing_in rows.now.places.now rows.now.values.now rows.now.count pair }
 {
-    let k = least(n, least(places.len(), values.len()));
-    row_of_best(walked(places, values, k, pair))
+    row_of_best(walked(rows, pair))
 }
 
 // Its gap.
-pub fn gap_in(places: &[Place], values: &[Value], n: usize, pair: usize) -> Option<f64>
-    ensures { result ≡ gap_of (pair_in places.now) (gap_in values.now) (governing_of (pair_in places.now) (gap_in values.now) (records_in n (length places.now) (length values.now)) pair) }
+pub fn gap_in(rows: &ReadRows, pair: usize) -> Option<f64>
+    ensures { result ≡ gap_of (pair_in rows.now.places.now) (gap_in rows.now.values.now) (governing_in rows.now.places.now rows.now.values.now rows.now.count pair) }
 {
-    let k = least(n, least(places.len(), values.len()));
-    gap_of_best(walked(places, values, k, pair))
+    gap_of_best(walked(rows, pair))
 }
 
 // ---- one row's entries

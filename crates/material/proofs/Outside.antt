@@ -12,7 +12,7 @@ use borrow.Author.Count.{below_more}
 use lib.Dec.{T}
 use lib.ListN.{length, get_or, drop, length-map, length-take, length-drop, get_or-map}
 use lib.Seq.{get_or-take, get_or-drop}
-use lib.Ieee.{Float, binary64, div, of_bits, nan, neg, inf, fin, lt, le}
+use lib.Ieee.{Float, nan, neg, inf, fin, lt, le}
 use Rattle.laws.specs.Lists.{list_in, foldl, any}
 use Rattle.laws.proofs.Choice.{holds, is_true, is_false, cond_no, and_no, or_cases}
 use Rattle.laws.proofs.Order.{lt_trans, lt_eq, eq-lt}
@@ -36,11 +36,6 @@ unfolding lt
 no_nan nan h = h
 no_nan (inf s) h = h
 no_nan (fin s m e) h = h
-
--- 0.0 / 0.0
-pub nothing : div binary64 (of_bits binary64 0) (of_bits binary64 0) ≡ nan
-unfolding div of_bits
-nothing = refl
 
 -- ---- one more point
 module _ (y lo v : Float) where

@@ -6,9 +6,8 @@ use native.Mathlib.Nat.{mod-eq_of_lt, mod_self}
 use native.Mathlib.Omega.{arith}
 use lib.ListN.{length, get_or, length-map, get_or-map}
 use lib.Ieee.{Float}
-use Rattle.laws.specs.Lists.{list_in, foldl}
+use Rattle.laws.specs.Lists.{list_in}
 use Rattle.laws.proofs.Lists.{list_same, list_map}
-use Rattle.ieee.specs.Num.{min_of}
 use Rattle.ieee.proofs.MinRoot.{Plain, squares-plain}
 use Rattle.geometry.specs.declared.Point.{Point}
 use Rattle.material.specs.Material.{Edge, nowhere, edge_at, edges_of, square_of, point_of, points_of}
@@ -42,6 +41,3 @@ edges-of-rows l =
 pub square-plain : (p : Point) (e : Edge) → Plain (square_of p e)
 unfolding square_of
 square-plain p e = squares-plain _ _
-
-abbrev pub least_in : Point → Float → List Edge → Float
-least_in p x l = foldl (λ x e. min_of x (square_of p e)) x l

@@ -13,8 +13,7 @@ use Rattle.laws.proofs.Order.{lt_trans, lt_eq}
 use Rattle.ieee.specs.Num.{max_of, min_of}
 use Rattle.ieee.proofs.MinRoot.{lt_le, le_cases, le_not_lt, min_numbers, max_numbers}
 use Rattle.geometry.specs.declared.Point.{Point}
-use Rattle.material.specs.Material.{Edge, square_of, edges_of, Serves}
-use Rattle.material.proofs.Parts.{least_in}
+use Rattle.material.specs.Material.{Edge, square_of, edges_of, Serves, least_in}
 
 -- ---- the order on numbers
 le_left : (x d : Float) → T (le x d) → is_nan x ≡ false

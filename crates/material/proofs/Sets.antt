@@ -110,7 +110,7 @@ module _ {E : Type 0} (f : E → Float) where
   abbrev least_of : Float → List E → Float
   least_of a l = foldl (λ x e. min_of x (f e)) a l
 
-  least_number : (l : List E) (a : Float) → is_nan a ≡ false → is_nan (least_of a l) ≡ false
+  pub least_number : (l : List E) (a : Float) → is_nan a ≡ false → is_nan (least_of a l) ≡ false
   unfolding foldl
   least_number [] a n = n
   least_number (e ∷ l) a n = least_number l (min_of a (f e)) (min_number a (f e) n)
@@ -147,7 +147,7 @@ module _ {E : Type 0} (f : E → Float) where
 
   -- values with no sign that are equal are the same
   module _ (plain : (e : E) → Plain (f e)) where
-    least_plain : (l : List E) (a : Float) → Plain a → Plain (least_of a l)
+    pub least_plain : (l : List E) (a : Float) → Plain a → Plain (least_of a l)
     unfolding foldl
     least_plain [] a p = p
     least_plain (e ∷ l) a p = least_plain l (min_of a (f e)) (min_plain a (f e) p (plain e))
@@ -160,7 +160,7 @@ module _ {E : Type 0} (f : E → Float) where
 edges-within : (l m k n : List (List Point)) → Within l m → Within k n → Within (flat edges_of (l ++ k)) (flat edges_of (m ++ n))
 edges-within l m k n f g = flat-within edges_of (l ++ k) (m ++ n) (append_within l m k n f g)
 
-infinity_number : is_nan infinity_f ≡ false
+pub infinity_number : is_nan infinity_f ≡ false
 unfolding is_nan of_bits
 infinity_number = refl
 
@@ -178,7 +178,8 @@ module _ (m n : Material) (s : Same m.solids n.solids) (c : Same m.cuts n.cuts) 
   unfolding depth_of
   depth_sets p = ap₂ (λ (b : Bool) (d : Float). cond b d zero_f) (holds-sets p)
       (foldl-map min_of (distance_of p) infinity_f (flat edges_of (m.solids ++ m.cuts))
-      ∙ least_sets (distance_of p) (λ e. root_plain (square_of p e) (square-plain p e)) (flat edges_of (m.solids ++ m.cuts)) (flat edges_of (n.solids ++ n.cuts)) edges-same infinity_f infinity_plain infinity_number
+      ∙ least_sets (distance_of p) (λ e. root_plain (square_of p e) (square-plain p e))
+      (flat edges_of (m.solids ++ m.cuts)) (flat edges_of (n.solids ++ n.cuts)) edges-same infinity_f infinity_plain infinity_number
       ∙ sym (foldl-map min_of (distance_of p) infinity_f (flat edges_of (n.solids ++ n.cuts))))
 
   pub deepest_sets : (d : Float) (l : List Point) → deepest_of m d l ≡ deepest_of n d l

@@ -8,10 +8,11 @@ use Rattle.laws.proofs.Lists.{foldl-map, foldl-flat, foldl-append}
 use Rattle.ieee.specs.Consts.{zero_f, infinity_f}
 use Rattle.ieee.specs.Num.{max_of, min_of}
 use Rattle.ieee.specs.Root.{root_of}
-use Rattle.ieee.proofs.MinRoot.{Plain, infinity_plain, root_number, min_numbers, min_root, min_plain, min_number, max_numbers, max_number, least_root}
+use Rattle.ieee.proofs.MinRoot.{Plain, infinity_plain, root_number, min_numbers, min_root, max_numbers, max_number, least_root}
 use Rattle.geometry.specs.declared.Point.{Point}
-use Rattle.material.specs.Material.{Edge, Material, edges_of, holds_of, square_of, distance_of, square_depth, depth_of, deepest_of, deepest_square}
-use Rattle.material.proofs.Parts.{square-plain, least_in}
+use Rattle.material.specs.Material.{Material, edges_of, holds_of, square_of, distance_of, square_depth, depth_of, deepest_of, deepest_square, least_in, least_among}
+use Rattle.material.proofs.Parts.{square-plain}
+use Rattle.material.proofs.Sets.{least_number, least_plain, infinity_number}
 
 -- ---- a number with no sign
 pub record PlainNumber (x : Float) : Type 0 where
@@ -21,10 +22,6 @@ pub record PlainNumber (x : Float) : Type 0 where
 pub zero_plain : PlainNumber zero_f
 unfolding fits of_bits is_nan
 zero_plain = record { plain = record { held = tt; no_sign = tt }; number = refl }
-
-infinity_number : PlainNumber infinity_f
-unfolding is_nan of_bits
-infinity_number = record { plain = infinity_plain; number = refl }
 
 pub zero_root : root_of zero_f ≡ zero_f
 unfolding root_of of_bits
@@ -57,21 +54,21 @@ module _ (x y : Float) (p : PlainNumber x) (q : PlainNumber y) where
   max_plain = record { plain = max_sign; number = max_number x y p.number }
 
 -- ---- the least of the squares
-least_plain : (p : Point) (l : List Edge) (a : Float) → PlainNumber a → PlainNumber (least_in p a l)
-unfolding foldl
-least_plain p [] a h = h
-least_plain p (e ∷ l) a h = least_plain p l (min_of a (square_of p e)) (record { plain = min_plain a (square_of p e) h.plain (square-plain p e); number = min_number a (square_of p e) h.number })
-
 module _ (m : Material) (p : Point) where
+  abbrev squares : List Float
+  squares = map (square_of p) (flat edges_of (m.solids ++ m.cuts))
+
+  abbrev distances : List Float
+  distances = map (distance_of p) (flat edges_of (m.solids ++ m.cuts))
+
   -- as the code folds it: the parts' polygons, then the cuts'
-  pub square-is : foldl min_of infinity_f (map (square_of p) (flat edges_of (m.solids ++ m.cuts)))
-      ≡ foldl (λ x l. least_in p x (edges_of l)) (foldl (λ x l. least_in p x (edges_of l)) infinity_f m.solids) m.cuts
+  pub square-is : foldl min_of infinity_f squares ≡ least_among p (least_among p infinity_f m.solids) m.cuts
   square-is =
       foldl-map min_of (square_of p) infinity_f (flat edges_of (m.solids ++ m.cuts))
       ∙ foldl-flat (λ x e. min_of x (square_of p e)) edges_of infinity_f (m.solids ++ m.cuts)
       ∙ foldl-append (λ x l. least_in p x (edges_of l)) infinity_f m.solids m.cuts
 
-  least_squares : root_of (foldl min_of infinity_f (map (square_of p) (flat edges_of (m.solids ++ m.cuts)))) ≡ foldl min_of infinity_f (map (distance_of p) (flat edges_of (m.solids ++ m.cuts)))
+  least_squares : root_of (foldl min_of infinity_f squares) ≡ foldl min_of infinity_f distances
   least_squares =
       ap root_of (foldl-map min_of (square_of p) infinity_f (flat edges_of (m.solids ++ m.cuts)))
       ∙ sym (foldl-map min_of (distance_of p) infinity_f (flat edges_of (m.solids ++ m.cuts)) ∙ least_root (square_of p) (square-plain p) (flat edges_of (m.solids ++ m.cuts)))
@@ -81,18 +78,21 @@ module _ (m : Material) (p : Point) where
   unfolding square_depth depth_of
   square-root = go (holds_of m p)
     where
-      go : (b : Bool) → root_of (cond b (foldl min_of infinity_f (map (square_of p) (flat edges_of (m.solids ++ m.cuts)))) zero_f) ≡ cond b (foldl min_of infinity_f (map (distance_of p) (flat edges_of (m.solids ++ m.cuts)))) zero_f
+      go : (b : Bool) → root_of (cond b (foldl min_of infinity_f squares) zero_f) ≡ cond b (foldl min_of infinity_f distances) zero_f
       go true = least_squares
       go false = zero_root
 
-  folded_plain : PlainNumber (foldl min_of infinity_f (map (square_of p) (flat edges_of (m.solids ++ m.cuts))))
-  folded_plain = subst PlainNumber (sym (foldl-map min_of (square_of p) infinity_f (flat edges_of (m.solids ++ m.cuts)))) (least_plain p (flat edges_of (m.solids ++ m.cuts)) infinity_f infinity_number)
+  folded_plain : PlainNumber (foldl min_of infinity_f squares)
+  folded_plain =
+      let l = flat edges_of (m.solids ++ m.cuts) in
+      subst PlainNumber (sym (foldl-map min_of (square_of p) infinity_f l))
+      (record { plain = least_plain (square_of p) (square-plain p) l infinity_f infinity_plain; number = least_number (square_of p) l infinity_f infinity_number })
 
   pub depth_plain : PlainNumber (square_depth m p)
   unfolding square_depth
   depth_plain = go (holds_of m p)
     where
-      go : (b : Bool) → PlainNumber (cond b (foldl min_of infinity_f (map (square_of p) (flat edges_of (m.solids ++ m.cuts)))) zero_f)
+      go : (b : Bool) → PlainNumber (cond b (foldl min_of infinity_f squares) zero_f)
       go true = folded_plain
       go false = zero_plain
 

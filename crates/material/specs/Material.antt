@@ -8,6 +8,7 @@ use Rattle.ieee.specs.Consts.{zero_f, infinity_f}
 use Rattle.ieee.specs.Num.{max_of, min_of, clamp_of}
 use Rattle.ieee.specs.Operators.{◌⊕◌, ◌⊖◌, ◌⊗◌, ◌⊘◌}
 use Rattle.ieee.specs.Root.{root_of}
+use Rattle.material.specs.declared.DrawnMaterial.{DrawnMaterial}
 use Rattle.geometry.specs.declared.Point.{Point}
 
 -- ---- polygons
@@ -64,6 +65,13 @@ square_of p e =
 abbrev pub distance_of : Point → Edge → Float
 distance_of p e = root_of (square_of p e)
 
+-- the least of x and the squares of p's distances from edges, and from the edges of polygons
+abbrev pub least_in : Point → Float → List Edge → Float
+least_in p x l = foldl (λ x e. min_of x (square_of p e)) x l
+
+abbrev pub least_among : Point → Float → List (List Point) → Float
+least_among p x l = foldl (λ x l. least_in p x (edges_of l)) x l
+
 -- r serves for x where numbers up to d make no difference: it is x, or neither is above d
 abbrev pub Serves : (d r x : Float) → Type 0
 Serves d r x = (r ≡ x) ⊎ (T (le r d) × T (le x d))
@@ -100,3 +108,7 @@ poly_at l starts k = points_of (between l (get_or starts k 0) (get_or starts (k 
 -- the first `solids` of `all` polygons are parts, the others cuts
 abbrev pub material_of : List (List Float) → List ℕ → ℕ → ℕ → Material
 material_of l starts solids all = record { solids = list_in (poly_at l starts) solids 0; cuts = list_in (poly_at l starts) (all - solids) solids }
+
+-- that of lent arrays
+abbrev pub drawn_material : DrawnMaterial → Material
+drawn_material m = material_of m.points.now m.starts.now m.solids m.all

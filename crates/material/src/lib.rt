@@ -1,12 +1,12 @@
 // Drawn material as polygons in lent arrays: inside, depth, and the largest square of the depths of many points (contact/rows.rs: `Material`, `inside`).
 #![tactic(auto)]
 
-ghost use Rattle.std.specs.Prelude.{◌≡◌, false, cond, ◌-◌, ◌%◌, ◌<◌, ◌≤◌, get_or};
+ghost use Rattle.std.specs.Prelude.{◌≡◌, false, cond, ◌+◌, ◌-◌, ◌%◌, ◌^◌, ◌<◌, ◌≤◌, get_or};
 ghost use Rattle.std.specs.Float.Ieee.{is_nan};
-ghost use Rattle.laws.specs.Lists.{list_in, foldl, any};
+ghost use Rattle.laws.specs.Lists.{list_in, any};
 ghost use Rattle.ieee.specs.Consts.{zero_f};
-ghost use Rattle.ieee.specs.Num.{min_of, max_of};
-ghost use Rattle.material.specs.Material.{cross_of, inside_of, holds_of, square_of, Serves, square_depth, depth_of, points_of, between, poly_at, material_of, edges_of};
+ghost use Rattle.ieee.specs.Num.{max_of};
+ghost use Rattle.material.specs.Material.{cross_of, inside_of, holds_of, square_of, least_in, least_among, Serves, square_depth, depth_of, points_of, between, poly_at, drawn_material, edges_of};
 ghost use Rattle.material.specs.Range.{low_of, high_of, range_of, outside_of};
 
 use geometry::Point;
@@ -68,13 +68,6 @@ pub fn inside(poly: &[Spot], p: Point) -> bool
     odd
 }
 
-// The start k, 0 past the last.
-fn start_at(starts: &[usize], k: usize) -> usize
-    ensures { result ≡ get_or starts.now k 0 }
-{
-    starts.get(k).copied().unwrap_or(0)
-}
-
 // The points from a up to e, as far as there are any.
 fn part<'a>(points: &'a [Spot], a: usize, e: usize) -> &'a [Spot]
     ensures { result.now ≡ between points.now a e }
@@ -86,26 +79,92 @@ fn part<'a>(points: &'a [Spot], a: usize, e: usize) -> &'a [Spot]
     &points[a..e.min(n)]
 }
 
-// Whether p is inside one of the polygons from `from` up to `to`.
-fn any_inside(points: &[Spot], starts: &[usize], from: usize, to: usize, p: Point) -> bool
-    ensures { result ≡ any (inside_of p) (list_in (poly_at points.now starts.now) (to - from) from) }
-{
-    for i in from..to {
-        if inside(
-            part(points, start_at(starts, i), start_at(starts, i + 1)),
-            p,
-        ) {
-            return true;
-        }
-    }
-    false
+// Drawn material in lent arrays: polygon k has the points from starts[k] up to starts[k + 1], and the first `solids` of `all` polygons are parts, the others cuts.
+#[derive(Clone, Copy)]
+pub struct DrawnMaterial<'a> {
+    pub points: &'a [Spot],
+    pub starts: &'a [usize],
+    pub solids: usize,
+    pub all: usize,
 }
 
-// Whether p is inside a part and outside every cut.
-pub fn holds(points: &[Spot], starts: &[usize], solids: usize, all: usize, p: Point) -> bool
-    ensures { result ≡ holds_of (material_of points.now starts.now solids all) p }
-{
-    any_inside(points, starts, 0, solids, p) && !any_inside(points, starts, solids, all, p)
+impl DrawnMaterial<'_> {
+    // Where polygon k starts, 0 past the last.
+    fn start(&self, k: usize) -> usize
+        ensures { result ≡ get_or self.now.starts.now k 0 }
+    {
+        self.starts.get(k).copied().unwrap_or(0)
+    }
+
+    // The points of polygon k.
+    fn polygon(&self, k: usize) -> &[Spot]
+        requires { k + 1 < 2 ^ 64 }
+        ensures { points_of result.now ≡ poly_at self.now.points.now self.now.starts.now k }
+    {
+        part(self.points, self.start(k), self.start(k + 1))
+    }
+
+    // Whether p is inside one of the polygons from `from` up to `to`.
+    fn any_inside(&self, from: usize, to: usize, p: Point) -> bool
+        ensures { result ≡ any (inside_of p) (list_in (poly_at self.now.points.now self.now.starts.now) (to - from) from) }
+    {
+        for i in from..to {
+            if inside(self.polygon(i), p) {
+                return true;
+            }
+        }
+        false
+    }
+
+    // Whether p is inside a part and outside every cut.
+    pub fn holds(&self, p: Point) -> bool
+        ensures { result ≡ holds_of (drawn_material self.now) p }
+    {
+        self.any_inside(0, self.solids, p) && !self.any_inside(self.solids, self.all, p)
+    }
+
+    // The least of `from` and the squares of p's distances from the edges of the polygons from `first` up to `to`. Numbers up to `enough` make no difference.
+    fn least(&self, first: usize, to: usize, p: Point, from: f64, enough: f64) -> f64
+        requires { is_nan from ≡ false }
+        ensures { Serves enough result (least_among p from (list_in (poly_at self.now.points.now self.now.starts.now) (to - first) first)) × (is_nan result ≡ false) }
+    {
+        let mut best = from;
+        for i in first..to {
+            best = least_of(self.polygon(i), p, best, enough);
+        }
+        best
+    }
+
+    // The least square of p's distances from the edges of the parts and the cuts, where the material holds p; zero outside. Numbers up to `enough` make no difference.
+    fn square_depth(&self, p: Point, enough: f64) -> f64
+        ensures { Serves enough result (square_depth (drawn_material self.now) p) }
+    {
+        if self.holds(p) {
+            let s = self.least(0, self.solids, p, infinity(), enough);
+            self.least(self.solids, self.all, p, s, enough)
+        } else {
+            0.0
+        }
+    }
+
+    // How deep p stands inside the material: its distance to the nearest edge of a part or a cut; zero outside. One root is taken, of the least square.
+    pub fn depth(&self, p: Point) -> f64
+        ensures { result ≡ depth_of (drawn_material self.now) p }
+    {
+        root(self.square_depth(p, 0.0 / 0.0))
+    }
+
+    // The largest of d and the square of p's depth, with the points outside a range settled at once.
+    #[tactic(auto, using(crate::proofs::Serves::serves_max))]
+    pub fn deeper_square(&self, range: Range, p: Point, d: f64) -> f64
+        ensures { result ≡ max_of d (cond (outside_of range.lo range.hi p.y) zero_f (square_depth (drawn_material self.now) p)) }
+    {
+        if is_outside(range.lo, range.hi, p.y) {
+            max(d, 0.0)
+        } else {
+            max(d, self.square_depth(p, d))
+        }
+    }
 }
 
 // The square of p's distance from the edge from a to b.
@@ -129,7 +188,7 @@ fn square(a: Point, b: Point, p: Point) -> f64
 // The least of `from` and the squares of p's distances from the polygon's edges. Where numbers up to `enough` make no difference the first of them that is met will do.
 fn least_of(poly: &[Spot], p: Point, from: f64, enough: f64) -> f64
     requires { is_nan from ≡ false }
-    ensures { Serves enough result (foldl (λ x e. min_of x (square_of p e)) from (edges_of (points_of poly.now))) × (is_nan result ≡ false) }
+    ensures { Serves enough result (least_in p from (edges_of (points_of poly.now))) × (is_nan result ≡ false) }
 {
     let n = poly.len();
     let mut best = from;
@@ -149,53 +208,6 @@ fn least_of(poly: &[Spot], p: Point, from: f64, enough: f64) -> f64
     best
 }
 
-// The same over the polygons from `first` up to `to`.
-fn least(
-    points: &[Spot],
-    starts: &[usize],
-    first: usize,
-    to: usize,
-    p: Point,
-    from: f64,
-    enough: f64,
-) -> f64
-    requires { is_nan from ≡ false }
-    ensures { Serves enough result (foldl (λ x l. foldl (λ x e. min_of x (square_of p e)) x (edges_of l)) from (list_in (poly_at points.now starts.now) (to - first) first)) × (is_nan result ≡ false) }
-{
-    let mut best = from;
-    for i in first..to {
-        let poly = part(points, start_at(starts, i), start_at(starts, i + 1));
-        best = least_of(poly, p, best, enough);
-    }
-    best
-}
-
-// The least square of p's distances from the edges of the parts and the cuts, where the material holds p; zero outside. Numbers up to `enough` make no difference.
-fn square_depth(
-    points: &[Spot],
-    starts: &[usize],
-    solids: usize,
-    all: usize,
-    p: Point,
-    enough: f64,
-) -> f64
-    ensures { Serves enough result (square_depth (material_of points.now starts.now solids all) p) }
-{
-    if holds(points, starts, solids, all, p) {
-        let s = least(points, starts, 0, solids, p, infinity(), enough);
-        least(points, starts, solids, all, p, s, enough)
-    } else {
-        0.0
-    }
-}
-
-// How deep p stands inside the material: its distance to the nearest edge of a part or a cut; zero outside. One root is taken, of the least square.
-pub fn depth(points: &[Spot], starts: &[usize], solids: usize, all: usize, p: Point) -> f64
-    ensures { result ≡ depth_of (material_of points.now starts.now solids all) p }
-{
-    root(square_depth(points, starts, solids, all, p, 0.0 / 0.0))
-}
-
 // A range of ordinates.
 #[derive(Clone, Copy)]
 pub struct Range {
@@ -203,7 +215,7 @@ pub struct Range {
     pub hi: f64,
 }
 
-#[tactic(auto, using(crate::proofs::Outside::nothing))]
+#[tactic(auto, using(ieee::proofs::Values::zero_over_zero))]
 fn low(lo: f64, y: f64) -> f64
     ensures { result ≡ low_of lo y }
 {
@@ -239,24 +251,4 @@ fn is_outside(lo: f64, hi: f64, y: f64) -> bool
     ensures { result ≡ outside_of lo hi y }
 {
     (y < lo) | (hi <= y)
-}
-
-// The largest of d and the square of p's depth, with the points outside a range settled at once.
-#[tactic(auto, using(crate::proofs::Serves::serves_max))]
-pub fn deeper_square(
-    points: &[Spot],
-    starts: &[usize],
-    solids: usize,
-    all: usize,
-    range: Range,
-    p: Point,
-    d: f64,
-) -> f64
-    ensures { result ≡ max_of d (cond (outside_of range.lo range.hi p.y) zero_f (square_depth (material_of points.now starts.now solids all) p)) }
-{
-    if is_outside(range.lo, range.hi, p.y) {
-        max(d, 0.0)
-    } else {
-        max(d, square_depth(points, starts, solids, all, p, d))
-    }
 }

@@ -1,4 +1,5 @@
--- Checks one after the other, and what a description that passes them is known to be. Worked is named so that the worked descriptions are computed before: a wrong definition then fails at a plain example. Assumes nothing.
+-- Checks one after the other, and what a description that passes them is known to be.
+-- Worked is named so that the worked descriptions are computed before: a wrong definition then fails at a plain example. Assumes nothing.
 use mathlib.Core.Path.{◌≡◌, refl, sym, ap, ◌∙◌}
 use mathlib.Core.Bool.{Bool, true, false, not, ◌&&◌, ◌||◌}
 use Prim.Native.Nat.{ℕ, ◌+◌, ◌<◌, ◌≤◌}
@@ -16,7 +17,8 @@ use lib.Ieee.{Float}
 use lib.ListN.{length}
 use Rattle.mechanism.specs.Description.{pair_at, segs_of, start_of_part, side_length}
 use Rattle.bodies.specs.Check.{Checked, and_then, refused_if, bodies_checked, bodies_lack, bodies_stand}
-use Rattle.mechanism.specs.Check.{side_over, pair_over, parts_over, pairs_over, limits_passed, limit_passed, parts_lack, outlines_lack, direction_missing, parts_checked, side_body, sides_checked, pairs_checked, check_of, call_checked, FewParts, FewPairs, Few}
+use Rattle.mechanism.specs.Check.{side_over, pair_over, parts_over, pairs_over, limits_passed, limit_passed, parts_lack, outlines_lack, direction_missing}
+use Rattle.mechanism.specs.Check.{parts_checked, side_body, sides_checked, pairs_checked, check_of, call_checked, FewParts, FewPairs, Few}
 use Rattle.mechanism.specs.declared.Parts.{Parts}
 use Rattle.mechanism.specs.declared.Pairs.{Pairs}
 use Rattle.mechanism.specs.declared.Mechanism.{Mechanism}
@@ -197,4 +199,6 @@ pub posed_bodies : (m : Mechanism) (q : List (List Float)) → check_of m ≡ Ok
 posed_bodies m q e =
     ap (λ (c : Checked). and_then c (refused_if (not (eqb (length q) m.bodies.coords)) PoseNotMatching)) (accepted-stand m e)
     ∙ fits_last (eqb (length q) m.bodies.coords)
-    ∙ ap (λ (c : Checked). and_then c (and_then (refused_if (not (eqb (length q) m.bodies.coords)) PoseNotMatching) (and_then (refused_if (not true) NoSuchThing) (refused_if (not true) TooFewRows)))) (sym e)
+    ∙ ap
+    (λ (c : Checked). and_then c (and_then (refused_if (not (eqb (length q) m.bodies.coords)) PoseNotMatching) (and_then (refused_if (not true) NoSuchThing) (refused_if (not true) TooFewRows))))
+    (sym e)

@@ -6,3 +6,4 @@ pub mod Known
 pub mod SegRows
 pub mod Refusals
 pub mod Walks
+pub mod SamePiece

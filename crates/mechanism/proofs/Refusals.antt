@@ -10,7 +10,8 @@ use Rattle.bodies.specs.Description.{body_at}
 use Rattle.bodies.specs.declared.Bodies.{Bodies}
 use Rattle.bodies.specs.declared.Problem.{Problem}
 use Rattle.bodies.specs.declared.Problem.TheVariants.{BodyNotPlaced, NoDirection, PartOnNoSuchBody, OutlineNotClosed, SideOnTwoBodies, PairOnOneBody}
-use Rattle.mechanism.specs.Check.{limit_passed, direction_missing, outline_open, part_checked, parts_checked, range_drawn, Side, with_drawn, with_range, side_end, side_body, sides_checked, pairs_checked, check_of}
+use Rattle.mechanism.specs.Check.{limit_passed, direction_missing, outline_open, part_checked, parts_checked, range_drawn, Side}
+use Rattle.mechanism.specs.Check.{with_drawn, with_range, side_end, side_body, sides_checked, pairs_checked, check_of}
 use Rattle.mechanism.specs.Description.{part_at, pair_at, range_at, start_of_part}
 use Rattle.mechanism.specs.declared.Parts.{Parts}
 use Rattle.mechanism.specs.declared.Outlines.{Outlines}
@@ -88,7 +89,9 @@ sides-not pair (Ok x) (Ok y) g h = if_not (eqb x y) (PairOnOneBody pair) (λ e. 
 -- ---- a description
 bodies-not : (b : Bodies) → NotThree (bodies_checked b)
 unfolding bodies_checked
-bodies-not b = first-not (λ i. refused_if (misplaced b.coords (body_at b i) i) (BodyNotPlaced (i + 1))) (λ i. if_not (misplaced b.coords (body_at b i) i) (BodyNotPlaced (i + 1)) (λ e. omega arith)) b.count 0
+bodies-not b =
+    first-not (λ i. refused_if (misplaced b.coords (body_at b i) i) (BodyNotPlaced (i + 1)))
+    (λ i. if_not (misplaced b.coords (body_at b i) i) (BodyNotPlaced (i + 1)) (λ e. omega arith)) b.count 0
 
 part-not : (bodies : ℕ) (o : Outlines) (p : Part) (at i : ℕ) → NotThree (part_checked bodies o p at i)
 part-not bodies o p at i =
@@ -102,7 +105,9 @@ parts-not bodies p o = first-not (λ i. part_checked bodies o (part_at p i) (sta
 
 pairs-not : (ps : Parts) (p : Pairs) → NotThree (pairs_checked ps p)
 unfolding pairs_checked
-pairs-not ps p = first-not (λ i. sides_checked i (side_body ps i (pair_at p i).a) (side_body ps i (pair_at p i).b)) (λ i. sides-not i (side_body ps i (pair_at p i).a) (side_body ps i (pair_at p i).b) (side-not ps i (pair_at p i).a) (side-not ps i (pair_at p i).b)) p.count 0
+pairs-not ps p =
+    first-not (λ i. sides_checked i (side_body ps i (pair_at p i).a) (side_body ps i (pair_at p i).b))
+    (λ i. sides-not i (side_body ps i (pair_at p i).a) (side_body ps i (pair_at p i).b) (side-not ps i (pair_at p i).a) (side-not ps i (pair_at p i).b)) p.count 0
 
 -- the whole, where no limit is passed
 pub check_not : (m : Mechanism) → limit_passed m ≡ false → NotThree (check_of m)

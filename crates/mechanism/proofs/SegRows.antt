@@ -78,11 +78,15 @@ module _ (o : Outlines) (n : ℕ) (long : n ≤ length o.seg) where
       found : (k : ℕ) → k < n → seg_at (outlines_in rows) k ≡ seg_at o k
       found k b =
           let e = rows-length in
-          row_at rows k ∙ ap seg_from (sym (get_or-take n rows k [] b) ∙ ap (λ (m : List (List Float)). get_or m k []) taken ∙ get_d_any (seg_rows o n) k [] (row_of_seg no_seg) (omega arith) ∙ get_or-map row_of_seg (take n o.seg) k no_seg)
+          row_at rows k
+          ∙ ap seg_from
+          (sym (get_or-take n rows k [] b) ∙ ap (λ (m : List (List Float)). get_or m k []) taken
+          ∙ get_d_any (seg_rows o n) k [] (row_of_seg no_seg) (omega arith) ∙ get_or-map row_of_seg (take n o.seg) k no_seg)
           ∙ seg-back (get_or (take n o.seg) k no_seg).seg ∙ ap (λ (x : OutlineSeg). x.seg) (get_or-take n o.seg k no_seg b)
 
 -- rows into which the first n segments were put
-module _ (o : Outlines) (l : List (List Float)) {n : ℕ} {rows : List (List Float)} (long : n ≤ length o.seg) (few : n ≤ 384) (room : n ≤ length l) (put : rows ≡ cond (segs_fit n (length l)) (sets l 0 (seg_rows o n)) l) where
+module _ (o : Outlines) (l : List (List Float)) {n : ℕ} {rows : List (List Float)} (long : n ≤ length o.seg) (few : n ≤ 384) (room : n ≤ length l)
+    (put : rows ≡ cond (segs_fit n (length l)) (sets l 0 (seg_rows o n)) l) where
   put-here : rows ≡ sets l 0 (seg_rows o n)
   put-here = put ∙ cond_yes _ _ (and_yes _ (le-leb n 384 few) ∙ le-leb n (length l) room)
 

@@ -21,7 +21,8 @@ use Rattle.mechanism.specs.declared.part.Sweep.TheVariants.{Extruded, Revolved, 
 use Rattle.mechanism.specs.declared.part.SurfaceRef.{SurfaceRef}
 use Rattle.mechanism.specs.declared.pair.Surface.{Surface}
 use Rattle.mechanism.specs.declared.pair.ContactPair.{ContactPair}
-use Rattle.bodies.specs.declared.Problem.TheVariants.{LimitPassed, NoDirection, PartOnNoSuchBody, OutlineNotClosed, RangeNotDrawn, SideOnTwoBodies, PairOnOneBody, PoseNotMatching, NoSuchThing, TooFewRows}
+use Rattle.bodies.specs.declared.Problem.TheVariants.{LimitPassed, NoDirection, PartOnNoSuchBody, OutlineNotClosed, RangeNotDrawn}
+use Rattle.bodies.specs.declared.Problem.TheVariants.{SideOnTwoBodies, PairOnOneBody, PoseNotMatching, NoSuchThing, TooFewRows}
 use Rattle.bodies.specs.declared.Problem.{Problem}
 
 -- ---- 3: a count passes its limit

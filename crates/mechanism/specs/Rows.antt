@@ -3,6 +3,7 @@ use Rattle.std.specs.Prelude.{ℕ, List, [], ◌∷◌, get_or, Float}
 use Rattle.std.specs.Float.{nan}
 use Rattle.geometry.specs.declared.signed.Proximity.{Proximity}
 use Rattle.mechanism.specs.Piece.{letter_of, part_of, seg_of, piece_in}
+use Rattle.mechanism.specs.declared.rows.LentRows.{LentRows}
 use Rattle.mechanism.specs.declared.rows.Row.{Row}
 
 abbrev pub proximity_of : Row → Proximity
@@ -33,3 +34,13 @@ pair_in places i = get_or (get_or places i []) 0 0
 
 abbrev pub gap_in : List (List Float) → ℕ → Float
 gap_in values i = get_or (get_or values i []) 0 nan
+
+-- ---- the arrays that are lent for rows
+pub record RowLists : Type 0 where
+  pub places : List (List ℕ)
+  pub values : List (List Float)
+  pub grad : List Float
+  pub slip : List Float
+
+abbrev pub lists_of : LentRows → RowLists
+lists_of r = record { places = r.places.now; values = r.values.now; grad = r.grad.now; slip = r.slip.now }

@@ -2,7 +2,9 @@
 ghost use Rattle.std.specs.Prelude.{◌≡◌, ◌||◌, ◌+◌, ◌≤◌, ◌<◌, is_ok};
 ghost use Rattle.mechanism.specs.Description.{start_of_part, silhouette_length, range_length, turned_length};
 ghost use Rattle.mechanism.specs.Segments.{outlines_in, described, segs_counted};
-ghost use Rattle.mechanism.specs.Check.{side_over, pair_over, parts_over, pairs_over, limits_passed, sweep_lacks, seg_lacks, parts_lack, outlines_lack, point_finite, same_point, seg_open, outline_open, part_checked, parts_checked, part_draws, range_drawn, with_body, side_body, sides_checked, pairs_checked, check_of, then_called, call_checked, side_drawn, pair_drawn, FewParts, FewPairs};
+ghost use Rattle.mechanism.specs.Check.{side_over, pair_over, parts_over, pairs_over, limits_passed, sweep_lacks, seg_lacks, parts_lack, outlines_lack, point_finite};
+ghost use Rattle.mechanism.specs.Check.{same_point, seg_open, outline_open, part_checked, parts_checked, part_draws, range_drawn, with_body, side_body, sides_checked};
+ghost use Rattle.mechanism.specs.Check.{pairs_checked, check_of, then_called, call_checked, side_drawn, pair_drawn, FewParts, FewPairs};
 
 use super::pair::{ContactPair, Surface};
 use super::part::{Part, SurfaceRef, Sweep};

@@ -1,9 +1,9 @@
 // The pieces of a side that a reading takes (contact/features.rs).
-ghost use Rattle.std.specs.Prelude.{◌≡◌};
-ghost use Rattle.mechanism.specs.Piece.{is_disc, letter_of, part_of, seg_of};
+ghost use Rattle.std.specs.Prelude.{◌≡◌, [], ◌∷◌, get_or};
+ghost use Rattle.mechanism.specs.Piece.{is_disc, letter_of, part_of, seg_of, piece_in};
 
 // A piece, by its part and by its segment in the part's silhouette.
-#[derive(Clone, Copy)]
+#[derive(Clone, Copy, PartialEq, Eq)]
 pub enum Piece {
     // A straight segment, read as a face.
     Segment { part: usize, seg: usize },
@@ -60,5 +60,29 @@ pub fn seg(p: Piece) -> usize
     match p {
         Piece::Segment { seg, .. } | Piece::Arc { seg, .. } | Piece::Vertex { seg, .. } => seg,
         Piece::Center { .. } => 0,
+    }
+}
+
+// A piece's letter, part and segment.
+impl From<Piece> for [usize; 3] {
+    ghost from_gives = { λ p r. r ≡ letter_of p ∷ part_of p ∷ seg_of p ∷ [] };
+
+    fn from(p: Piece) -> [usize; 3] {
+        [letter(p), part(p), seg(p)]
+    }
+}
+
+// And back; a letter above 3 is read as 3.
+impl From<[usize; 3]> for Piece {
+    ghost from_gives = { λ r p. p ≡ piece_in (get_or r 0 0) (get_or r 1 0) (get_or r 2 0) };
+
+    fn from(r: [usize; 3]) -> Piece {
+        let [letter, part, seg] = r;
+        match letter {
+            0 => Piece::Segment { part, seg },
+            1 => Piece::Arc { part, seg },
+            2 => Piece::Vertex { part, seg },
+            _ => Piece::Center { part },
+        }
     }
 }

@@ -1,8 +1,8 @@
 // The rows of a reading (contact/rows.rs).
-ghost use Rattle.std.specs.Prelude.{◌≡◌};
+ghost use Rattle.std.specs.Prelude.{◌≡◌, get_or, replicate, []};
+ghost use Rattle.ieee.specs.Consts.{zero_f};
 ghost use Rattle.geometry.specs.Signed.{on_a, on_b};
-ghost use Rattle.mechanism.specs.Piece.{piece_in};
-ghost use Rattle.mechanism.specs.Rows.{proximity_of, row_in};
+ghost use Rattle.mechanism.specs.Rows.{lists_of, proximity_of, row_in};
 
 use super::features::{Feature, Piece};
 use geometry::signed::Proximity;
@@ -23,6 +23,76 @@ pub type Place = [usize; 7];
 
 // Second half: its gap, normal and point.
 pub type Value = [f64; 5];
+
+// Lent arrays for rows: of each row both halves, and its gradient and its slip, a float a coordinate each.
+#[derive(Drop)]
+pub struct LentRows<'a> {
+    pub places: &'a mut [Place],
+    pub values: &'a mut [Value],
+    pub grad: &'a mut [f64],
+    pub slip: &'a mut [f64],
+}
+
+// Arrays of fixed length to lend: for N rows, and for K entries of their gradients and of their slips.
+#[derive(Drop)]
+pub struct RowArrays<const N: usize, const K: usize> {
+    pub places: [Place; N],
+    pub values: [Value; N],
+    pub grad: [f64; K],
+    pub slip: [f64; K],
+}
+
+impl<const N: usize, const K: usize> RowArrays<N, K> {
+    // Arrays that hold zeros.
+    pub fn blank() -> RowArrays<N, K>
+        ensures { result ≡ record { places = replicate N (replicate 7 0); values = replicate N (replicate 5 zero_f); grad = replicate K zero_f; slip = replicate K zero_f } }
+    {
+        RowArrays {
+            places: [[0; 7]; N],
+            values: [[0.0; 5]; N],
+            grad: [0.0; K],
+            slip: [0.0; K],
+        }
+    }
+
+    pub fn lent(&mut self) -> LentRows<'_>
+        ensures { lists_of result ≡ record { places = self.old.places; values = self.old.values; grad = self.old.grad; slip = self.old.slip } }
+    {
+        LentRows {
+            places: &mut self.places,
+            values: &mut self.values,
+            grad: &mut self.grad,
+            slip: &mut self.slip,
+        }
+    }
+}
+
+// The first `count` rows of lent arrays, to be read, as far as they are there: both halves of each.
+#[derive(Clone, Copy)]
+pub struct ReadRows<'a> {
+    pub places: &'a [Place],
+    pub values: &'a [Value],
+    pub count: usize,
+}
+
+impl ReadRows<'_> {
+    // Row i: past the end of an array, zeros and NaN.
+    pub fn row(&self, i: usize) -> Row
+        ensures { result ≡ row_in (get_or self.now.places.now i []) (get_or self.now.values.now i []) }
+    {
+        let place = if i < self.places.len() {
+            self.places[i]
+        } else {
+            [0; 7]
+        };
+        let value = if i < self.values.len() {
+            self.values[i]
+        } else {
+            [0.0 / 0.0; 5]
+        };
+        Row::from((place, value))
+    }
+}
 
 impl Row {
     // Where its two pieces meet.
@@ -51,35 +121,27 @@ impl Row {
     }
 }
 
-// The piece of three whole numbers.
-pub fn piece_from(letter: usize, part: usize, seg: usize) -> Piece
-    ensures { result ≡ piece_in letter part seg }
-{
-    match letter {
-        0 => Piece::Segment { part, seg },
-        1 => Piece::Arc { part, seg },
-        2 => Piece::Vertex { part, seg },
-        _ => Piece::Center { part },
-    }
-}
-
 // The row that stands in lent arrays as these two.
-pub fn row_from(place: Place, value: Value) -> Row
-    ensures { result ≡ row_in place value }
-{
-    let a = piece_from(place[1], place[2], place[3]);
-    let b = piece_from(place[4], place[5], place[6]);
-    Row {
-        pair: place[0],
-        feature: Feature { a, b },
-        gap: value[0],
-        normal: Dir {
-            x: value[1],
-            y: value[2],
-        },
-        point: Point {
-            x: value[3],
-            y: value[4],
-        },
+impl From<(Place, Value)> for Row {
+    ghost from_gives = { λ r row. row ≡ row_in r.0 r.1 };
+
+    fn from(r: (Place, Value)) -> Row {
+        let (place, value) = r;
+        Row {
+            pair: place[0],
+            feature: Feature {
+                a: Piece::from([place[1], place[2], place[3]]),
+                b: Piece::from([place[4], place[5], place[6]]),
+            },
+            gap: value[0],
+            normal: Dir {
+                x: value[1],
+                y: value[2],
+            },
+            point: Point {
+                x: value[3],
+                y: value[4],
+            },
+        }
     }
 }

@@ -21,7 +21,7 @@ use Rattle.bodies.specs.declared.pose.Placement.{Placement}
 use Rattle.bodies.specs.declared.pose.Pose.{Pose}
 use Rattle.material.specs.Material.{Material, square_depth, deepest_of, deepest_square}
 use Rattle.material.proofs.Squares.{PlainNumber, zero_root, deepest_root, deepest_plain}
-use Rattle.strips.specs.Strips.{part_at, point_at}
+use Rattle.strips.specs.Strips.{TableRows, part_at, sampled_at}
 use Rattle.strips.specs.declared.PartFacts.{PartFacts}
 use Rattle.drawing.proofs.Lays.{turn-from, done-from}
 use Rattle.overlap.specs.Prepared.{samples_in}
@@ -93,10 +93,10 @@ module _ (m : Material) (samples : ℕ → List Point) (chosen : ℕ → Bool) (
   sunk_end d i h = ap (foldl sink (root_of d)) (filter-done chosen n i h)
 
 -- ---- the samples of a prepared part
-module _ (sampled : List (List Float)) (parts : List (List ℕ)) (q : Pose) (m : Material) (d : Float) {e : Float} {p : PartFacts} {place : Placement} (i : ℕ) (part : p ≡ part_at parts i)
-    (placed : place ≡ placement_at q p.body) (taken : e ≡ deepest_square m d (map (world_of place) (list_in (point_at sampled) p.samples p.sampled))) where
-  pub samples_taken : e ≡ deepest_square m d (samples_in sampled parts q i)
+module _ (t : TableRows) (q : Pose) (m : Material) (d : Float) {e : Float} {p : PartFacts} {place : Placement} (i : ℕ) (part : p ≡ part_at t i)
+    (placed : place ≡ placement_at q p.body) (taken : e ≡ deepest_square m d (map (world_of place) (list_in (sampled_at t) p.samples p.sampled))) where
+  pub samples_taken : e ≡ deepest_square m d (samples_in t q i)
   unfolding samples_in
   samples_taken =
-      taken ∙ ap (λ (k : Placement). deepest_square m d (map (world_of k) (list_in (point_at sampled) p.samples p.sampled))) placed
-      ∙ ap (λ (p : PartFacts). deepest_square m d (map (world_of (placement_at q p.body)) (list_in (point_at sampled) p.samples p.sampled))) part
+      taken ∙ ap (λ (k : Placement). deepest_square m d (map (world_of k) (list_in (sampled_at t) p.samples p.sampled))) placed
+      ∙ ap (λ (p : PartFacts). deepest_square m d (map (world_of (placement_at q p.body)) (list_in (sampled_at t) p.samples p.sampled))) part

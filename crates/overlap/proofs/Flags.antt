@@ -1,10 +1,12 @@
--- Flags by number, one for each of 32 parts: what a loop that sets them leaves, and the parts that they name. Once is named so that a wrong list of owners fails first at the plain statement that none stands twice. Assumes nothing.
+-- Flags by number, one for each of 32 parts: what a loop that sets them leaves, and the parts that they name. Once is named so that a wrong list of owners fails first at the
+-- plain statement that none stands twice. Assumes nothing.
 use Prim.Native.Nat.{ℕ, zero, suc, ◌+◌, ◌-◌, ◌<◌, ◌≤◌}
 use native.Mathlib.Omega.{arith}
 use native.Mathlib.Nat.{add-zero, add-suc, suc-add, zero-add}
 use mathlib.Core.Path.{◌≡◌, refl, sym, ap, ap₂, ◌∙◌}
 use mathlib.Core.Bool.{Bool, true, false, not, ◌&&◌, ◌||◌, cond}
 use mathlib.Core.List.{List, [], ◌∷◌}
+use lib.Dec.{eqb}
 use lib.ListN.{get_or}
 use lib.Seq.{take_all}
 use Rattle.laws.specs.Fill.{Filling}
@@ -13,6 +15,7 @@ use Rattle.std.specs.List.{list_any, list_all}
 use Rattle.laws.specs.Loops.{filter_in}
 use Rattle.laws.proofs.Fill.{fill_end}
 use Rattle.laws.proofs.Lists.{list_turn, list_done}
+use Rattle.drawing.specs.Drawing.{what_is}
 use Rattle.overlap.specs.Overlap.{owner_at, as_owners}
 use Rattle.overlap.proofs.Once as once
 
@@ -42,9 +45,18 @@ filter_same p r zero j e = refl
 filter_same p r (suc k) j e =
     ap₂ (λ (b : Bool) (l : List ℕ). cond b (j ∷ l) l) (e j (omega arith)) (filter_same p r k (suc j) (λ i h. e i (omega arith)))
 
+-- a part is a solid, a cut or neither
+pub is-solid : (s t : Bool) → eqb (what_is s t) 1 ≡ s
+is-solid true t = refl
+is-solid false true = refl
+is-solid false false = refl
+
+pub owner-flag : (p : ℕ → Bool) (i : ℕ) → i < 32 → owner_at (as_owners p) i ≡ p i
+owner-flag p i h = ap (λ (x : ℕ). eqb x 1) (flag_at (λ j. what_is (p j) false) 0 i h) ∙ is-solid (p i) false
+
 -- the parts that the flags of a test name are those that pass it
 pub owners-as : (p : ℕ → Bool) (n : ℕ) → n ≤ 32 → filter_in (owner_at (as_owners p)) n 0 ≡ filter_in p n 0
-owners-as p n h = filter_same (owner_at (as_owners p)) p n 0 (λ i l. flag_at p false i (omega arith))
+owners-as p n h = filter_same (owner_at (as_owners p)) p n 0 (λ i l. owner-flag p i (omega arith))
 
 -- ---- std's words for a test of a list's elements
 pub any_listed : (p : ℕ → Bool) (l : List ℕ) → list_any p l ≡ any p l

@@ -6,5 +6,4 @@ pub mod Listed
 pub mod Pairwise
 pub mod Answers
 pub mod Deepest
-pub mod Drawn
 pub mod PairRows

@@ -27,8 +27,7 @@ use Rattle.drawing.specs.Drawing.{is_cut, is_sampled, is_read_cut, polygon_of, c
 use Rattle.drawing.specs.Samples.{mouths_of, part_samples}
 use Rattle.drawing.specs.declared.Chosen.{Chosen}
 use Rattle.overlap.specs.Overlap.{sunk_of, owners_of, is_in, cut_of_any, list_material, all_parts, owner_at, as_owners}
-use Rattle.overlap.specs.declared.Owners.{Owners}
-use Rattle.overlap.proofs.Flags.{flag_at, filter_same}
+use Rattle.overlap.proofs.Flags.{flag_at, filter_same, is-solid, owner-flag}
 
 -- ---- the elements of a list
 list_has : (l : List ℕ) (x : ℕ) → Memᴰ x l → T (is_in l x)
@@ -117,11 +116,6 @@ same_self : {A : Type 0} {l m : List A} → l ≡ m → Same l m
 same_self {A} {l} {m} e = record { there = λ x i. subst (Memᴰ x) e i; back = λ x i. subst (Memᴰ x) (sym e) i }
 
 -- ---- a part is a solid, a cut or neither
-is-solid : (s t : Bool) → eqb (what_is s t) 1 ≡ s
-is-solid true t = refl
-is-solid false true = refl
-is-solid false false = refl
-
 is-a-cut : (s t : Bool) → (s ≡ true → t ≡ false) → eqb (what_is s t) 2 ≡ t
 is-a-cut true t e = sym (e refl)
 is-a-cut false true e = refl
@@ -134,7 +128,7 @@ no_cut true false s b e = refl
 no_cut false c s b e = absurd (false≢true e)
 
 -- ---- the material of the owners of a list
-module _ (ps : Parts) (w : Owners) where
+module _ (ps : Parts) (w : Chosen) where
   abbrev pub on_body : ℕ → Bool
   on_body i = any_in (λ j. owner_at w j && eqb (part_at ps j).body (part_at ps i).body) ps.count 0
 
@@ -148,7 +142,7 @@ module _ (ps : Parts) (few : FewParts ps) (l : List ℕ) (named : all_parts ps l
   abbrev owner : ℕ → Bool
   owner i = is_in l i && is_sampled (part_at ps i)
 
-  abbrev owners : Owners
+  abbrev owners : Chosen
   owners = as_owners owner
 
   abbrev kept : List ℕ
@@ -158,7 +152,7 @@ module _ (ps : Parts) (few : FewParts ps) (l : List ℕ) (named : all_parts ps l
   few-count = few.count
 
   owner-is : (i : ℕ) → i < 32 → owner_at owners i ≡ is_in kept i
-  owner-is i h = flag_at owner false i h ∙ sym (in_kept (λ j. is_sampled (part_at ps j)) l i)
+  owner-is i h = owner-flag owner i h ∙ sym (in_kept (λ j. is_sampled (part_at ps j)) l i)
 
   kept-below : (x : ℕ) → Memᴰ x kept → x < ps.count
   kept-below x i = ltb-true x ps.count
@@ -188,7 +182,7 @@ module _ (ps : Parts) (few : FewParts ps) (l : List ℕ) (named : all_parts ps l
   cut_is i h =
       ap (λ (x : ℕ). eqb x 2) (choice_is i h)
       ∙ is-a-cut (owner_at owners i) (is_read_cut (part_at ps i) && on_body ps owners i)
-      (λ e. no_cut (is_in l i) (is_cut (part_at ps i).role) (in_the_section (part_at ps i).sweep) (on_body ps owners i) (sym (flag_at owner false i h) ∙ e))
+      (λ e. no_cut (is_in l i) (is_cut (part_at ps i).role) (in_the_section (part_at ps i).sweep) (on_body ps owners i) (sym (owner-flag owner i h) ∙ e))
       ∙ ap (λ (b : Bool). is_read_cut (part_at ps i) && b) (on_body_lem i)
 
   module _ (o : Outlines) (q : Pose) where
@@ -196,7 +190,8 @@ module _ (ps : Parts) (few : FewParts ps) (l : List ℕ) (named : all_parts ps l
     unfolding chosen_material
     solids-same =
         let n = few-count in
-        let e : filter_in (chosen_as (chosen_of ps owners) 1) ps.count 0 ≡ filter_in (is_in kept) ps.count 0 = filter_same (chosen_as (chosen_of ps owners) 1) (is_in kept) ps.count 0 (λ i h. solid-is i (omega (arith, n, h))) in
+        let e : filter_in (chosen_as (chosen_of ps owners) 1) ps.count 0 ≡ filter_in (is_in kept) ps.count 0 = filter_same (chosen_as (chosen_of ps owners) 1) (is_in kept) ps.count 0
+        (λ i h. solid-is i (omega (arith, n, h))) in
         subst (λ (m : List ℕ). Same (map (polygon_of ps o q) m) (map (polygon_of ps o q) kept)) (sym e) (map_same (polygon_of ps o q) (filter_in (is_in kept) ps.count 0) kept kept-once)
 
     cuts-same : Same (chosen_material ps o q (chosen_of ps owners)).cuts (list_material ps o q kept).cuts

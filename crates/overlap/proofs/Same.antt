@@ -1,5 +1,5 @@
 -- Overlaps ask of the outlines the silhouettes alone, and rows into which the segments were put give the same. Assumes nothing.
-use Prim.Native.Nat.{ℕ, ◌*◌, ◌≤◌}
+use Prim.Native.Nat.{ℕ, zero, suc, ◌*◌, ◌≤◌}
 use native.Mathlib.Omega.{arith}
 use mathlib.Core.Path.{◌≡◌, refl, ap, ap₂, subst, ◌∙◌}
 use mathlib.Core.Bool.{Bool, true, false, cond}
@@ -9,6 +9,7 @@ use lib.Ieee.{Float}
 use lib.ListN.{length}
 use lib.Seq.{sets, length-sets}
 use Rattle.laws.specs.Lists.{foldl}
+use Rattle.laws.specs.Loops.{fold_in}
 use Rattle.ieee.specs.Consts.{zero_f}
 use Rattle.ieee.specs.Num.{max_of}
 use Rattle.geometry.specs.declared.Point.{Point}
@@ -19,6 +20,7 @@ use Rattle.mechanism.proofs.SegRows.{put-rows-same}
 use Rattle.mechanism.proofs.SameCheck.{check_same}
 use Rattle.mechanism.specs.declared.Mechanism.{Mechanism}
 use Rattle.mechanism.specs.declared.Outlines.{Outlines}
+use Rattle.mechanism.specs.declared.Pairs.{Pairs}
 use Rattle.mechanism.specs.declared.Parts.{Parts}
 use Rattle.mechanism.specs.declared.pair.ContactPair.{ContactPair}
 use Rattle.mechanism.specs.declared.pair.PairGeometry.{PairGeometry}
@@ -38,7 +40,8 @@ use Rattle.std.proofs.Common.{Result}
 use Rattle.bodies.specs.Check.{Checked}
 use Rattle.bodies.specs.declared.Problem.{Problem}
 
-fold_each : (f g : ℕ → List Point) (m : Material) → ((i : ℕ) → f i ≡ g i) → (l : List ℕ) (d : Float) → foldl (λ d i. deepest_of m d (f i)) d l ≡ foldl (λ d i. deepest_of m d (g i)) d l
+fold_each : (f g : ℕ → List Point) (m : Material) → ((i : ℕ) → f i ≡ g i) → (l : List ℕ) (d : Float)
+    → foldl (λ d i. deepest_of m d (f i)) d l ≡ foldl (λ d i. deepest_of m d (g i)) d l
 unfolding foldl
 fold_each f g m e [] d = refl
 fold_each f g m e (i ∷ l) d = fold_each f g m e l (deepest_of m d (f i)) ∙ ap (λ (x : List Point). foldl (λ d i. deepest_of m d (g i)) (deepest_of m d x) l) (e i)
@@ -72,6 +75,11 @@ module _ (ps : Parts) (o o' : Outlines) (same : (i : ℕ) → silhouette_at ps o
   unfolding parts_overlap
   parts_same a b = ap₂ max_of (sunk_same (is_in (owners_of ps a)) (list_same (owners_of ps b))) (sunk_same (is_in (owners_of ps b)) (list_same (owners_of ps a)))
 
+max_each : (f g : ℕ → Float) → ((i : ℕ) → f i ≡ g i) → (d : Float) (k j : ℕ) → fold_in (λ d i. max_of d (f i)) d k j ≡ fold_in (λ d i. max_of d (g i)) d k j
+unfolding fold_in
+max_each f g e d zero j = refl
+max_each f g e d (suc k) j = ap (λ (x : Float). fold_in (λ d i. max_of d (f i)) (max_of d x) k (suc j)) (e j) ∙ max_each f g e (max_of d (g j)) k (suc j)
+
 -- ---- rows into which the counted segments were put
 put-length : (t : Bool) (l xs : List (List Float)) → length (cond t (sets l 0 xs) l) ≡ length l
 put-length true l xs = length-sets l 0 xs
@@ -85,10 +93,17 @@ put-asks ps o l k {n} room counted h put =
     let m = ap length put ∙ put-length (segs_fit n (length l)) l (seg_rows o n) in
     (omega (arith, e, h, m, room), omega (arith, e, h), omega (arith, e, h))
 
-module _ (ps : Parts) (o : Outlines) (l : List (List Float)) {n : ℕ} {rows : List (List Float)} (long : length o.seg ≡ 384) (counted : (n ≡ segs_counted ps) × (n ≤ 384)) (room : n ≤ length l)
+module _ (ps : Parts) (o : Outlines) (l : List (List Float)) {n : ℕ} {rows : List (List Float)} (long : length o.seg ≡ 384) (counted : (n ≡ segs_counted ps) × (n ≤ 384))
+    (room : n ≤ length l)
     (put : rows ≡ cond (segs_fit n (length l)) (sets l 0 (seg_rows o n)) l) (q : Pose) where
   pub overlap_put : (p : ContactPair) {d : Float} → d ≡ pair_overlap_at ps (outlines_in rows) q p → d ≡ pair_overlap_at ps o q p
   overlap_put p e = e ∙ overlap_at_same ps (outlines_in rows) o (put_same ps o l long counted room put) q p
+
+  pub pairs-put : (pairs : Pairs) {d : Float} → d ≡ fold_in (λ d i. max_of d (pair_overlap_at ps (outlines_in rows) q (pair_at pairs i))) zero_f pairs.count 0
+      → d ≡ fold_in (λ d i. max_of d (pair_overlap_at ps o q (pair_at pairs i))) zero_f pairs.count 0
+  pairs-put pairs e =
+      e ∙ max_each (λ i. pair_overlap_at ps (outlines_in rows) q (pair_at pairs i)) (λ i. pair_overlap_at ps o q (pair_at pairs i))
+      (λ i. overlap_at_same ps (outlines_in rows) o (put_same ps o l long counted room put) q (pair_at pairs i)) zero_f pairs.count 0
 
   pub parts-put : (a b : List ℕ) {d : Float} → d ≡ parts_overlap ps (outlines_in rows) q a b → d ≡ parts_overlap ps o q a b
   parts-put a b e = e ∙ parts_same ps (outlines_in rows) o (put_same ps o l long counted room put) q a b

@@ -1,9 +1,10 @@
 -- How deep parts stand in one another (contact/rows.rs: `sunk`, `overlap`, `pair_overlap`, `parts_overlap`). Definitions only.
-use Rattle.std.specs.Prelude.{ℕ, Bool, true, false, not, ◌&&◌, cond, List, map, eqb, ltb, get_or, Float, Result}
+use Rattle.std.specs.Prelude.{ℕ, Bool, true, false, not, ◌&&◌, cond, List, map, eqb, ltb, Float, Result}
 use Rattle.laws.specs.Lists.{list_in, foldl, any}
 use Rattle.laws.specs.Loops.{filter_in, fold_in, keep}
 use Rattle.ieee.specs.Consts.{zero_f}
 use Rattle.ieee.specs.Num.{max_of}
+use Rattle.geometry.specs.declared.Point.{Point}
 use Rattle.mechanism.specs.Check.{call_checked, answer_of, pair_drawn}
 use Rattle.mechanism.specs.Description.{part_at, pair_at}
 use Rattle.bodies.specs.Pose.{placement_at, world_of, pose_fits}
@@ -16,10 +17,10 @@ use Rattle.mechanism.specs.declared.pair.PairGeometry.TheVariants.{Features, Cen
 use Rattle.mechanism.specs.declared.pair.Surface.{Surface}
 use Rattle.bodies.specs.declared.pose.Pose.{Pose}
 use Rattle.material.specs.Material.{Edge, Material, depth_of, deepest_of}
-use Rattle.drawing.specs.Drawing.{is_sampled, is_read_cut, polygon_of, polygons_of, is_own, body_of_side, side_material}
+use Rattle.drawing.specs.Drawing.{is_sampled, is_read_cut, polygon_of, polygons_of, is_own, body_of_side, side_material, chosen_as, what_is}
 use Rattle.drawing.specs.Samples.{mouths_of, part_samples}
 use Rattle.sides.specs.Features.{center_at}
-use Rattle.overlap.specs.declared.Owners.{Owners}
+use Rattle.drawing.specs.declared.Chosen.{Chosen}
 use Rattle.bodies.specs.declared.Problem.{Problem}
 
 -- ---- sunk: the deepest that a sample of one of the owners, in order and each once, stands inside a material; zero where none does
@@ -27,8 +28,12 @@ use Rattle.bodies.specs.declared.Problem.{Problem}
 abbrev pub owners_once : (ℕ → Bool) → ℕ → List ℕ
 owners_once owner n = filter_in owner n 0
 
+-- of those of n parts that own samples
+abbrev pub sunk_among : (ℕ → List Point) → ℕ → (ℕ → Bool) → Material → Float
+sunk_among samples n owner m = foldl (λ d i. deepest_of m d (samples i)) zero_f (owners_once owner n)
+
 abbrev pub sunk_by : Parts → Outlines → Pose → (ℕ → Bool) → List Edge → Material → Float
-sunk_by ps o q owner mouths m = foldl (λ d i. deepest_of m d (part_samples ps o q mouths i)) zero_f (owners_once owner ps.count)
+sunk_by ps o q owner mouths m = sunk_among (part_samples ps o q mouths) ps.count owner m
 
 abbrev pub sunk_of : Parts → Outlines → Pose → (ℕ → Bool) → Material → Float
 sunk_of ps o q owner m = sunk_by ps o q owner (mouths_of ps o) m
@@ -98,9 +103,9 @@ parts_overlap_answer m q a b = answer_of (call_checked m (pose_fits m.bodies q) 
 unfoldable pub pair_overlap_at : Parts → Outlines → Pose → ContactPair → Float
 pair_overlap_at ps o q p = cond (pair_drawn ps p) (pair_overlap ps o q p) zero_f
 
--- ---- what the code holds: which parts own the samples
-abbrev pub owner_at : Owners → ℕ → Bool
-owner_at w i = get_or w.is i false
+-- ---- what the code holds: the parts that own the samples, chosen as 1
+abbrev pub owner_at : Chosen → ℕ → Bool
+owner_at w = chosen_as w 1
 
-abbrev pub as_owners : (ℕ → Bool) → Owners
-as_owners p = record { is = list_in p 32 0 }
+abbrev pub as_owners : (ℕ → Bool) → Chosen
+as_owners p = record { what = list_in (λ i. what_is (p i) false) 32 0 }

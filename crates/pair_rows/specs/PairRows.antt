@@ -1,46 +1,67 @@
--- The rows shown of a pair's candidates, which stand in two arrays, with their gradients and slips. Definitions only.
-use Rattle.std.specs.Prelude.{ℕ, ◌+◌, ◌*◌, ◌≤◌, ◌≡◌, Bool, not, ◌&&◌, ◌||◌, cond, List, [], ◌∷◌, map, eqb, leb, ltb, length, get_or, set, replicate, Float}
+-- The rows shown of a pair's candidates, with their gradients and slips. Definitions only.
+use Rattle.std.specs.Prelude.{ℕ, ◌+◌, ◌*◌, ◌≤◌, ◌≡◌, Bool, not, ◌&&◌, ◌||◌, cond, List, map, eqb, leb, ltb, length, get_or, set, replicate, Float}
 use Rattle.std.proofs.lemmas.List.Edits.{sets}
 use Rattle.std.specs.Float.Ieee.{lt, eq, neg}
 use Rattle.std.specs.Float.{nan}
 use Rattle.laws.specs.Lists.{foldl, flat}
 use Rattle.ieee.specs.Consts.{zero_f}
 use Rattle.ieee.specs.Operators.{◌⊕◌, ◌⊖◌}
+use Rattle.geometry.specs.Geometry.{vector_of}
 use Rattle.geometry.specs.Signed.{dot_of}
 use Rattle.geometry.specs.declared.Point.{Point}
 use Rattle.bodies.specs.Pose.{columns_of}
-use Rattle.mechanism.specs.Rows.{gap_in}
 use Rattle.bodies.specs.declared.Bodies.{Bodies}
 use Rattle.bodies.specs.declared.pose.Column.{Column}
 use Rattle.bodies.specs.declared.pose.Pose.{Pose}
+use Rattle.mechanism.specs.Piece.{same_piece}
+use Rattle.mechanism.specs.Rows.{RowLists, place_row, value_row}
+use Rattle.mechanism.specs.declared.features.Piece.{Piece}
+use Rattle.mechanism.specs.declared.rows.LentRows.{LentRows}
+use Rattle.mechanism.specs.declared.rows.Row.{Row}
 use Rattle.showing.specs.Showing.{shown}
+use Rattle.proximities.specs.Proximities.{no_candidate}
+use Rattle.proximities.specs.declared.Candidate.{Candidate}
 use Rattle.pair_rows.specs.declared.Source.{Source}
 
--- ---- candidates read from lent arrays
-abbrev pub who_in : List ℕ → ℕ
-who_in x = get_or x 6 0
+-- ---- candidates by number
+abbrev pub candidate_at : List Candidate → ℕ → Candidate
+candidate_at cs i = get_or cs i no_candidate
 
-abbrev pub decides_row : List ℕ → Bool
-decides_row x = not (eqb (who_in x) 0)
+abbrev pub gap_at : List Candidate → ℕ → Float
+gap_at cs i = (candidate_at cs i).near.gap
 
--- number k of the deciding piece: 0 its letter, 1 its part, 2 its segment
-abbrev pub deciding_in : List ℕ → ℕ → ℕ
-deciding_in x k = cond (eqb (who_in x) 1) (get_or x k 0) (get_or x (k + 3) 0)
+-- one of the two pieces decides; a term of document 01: the deciding piece is the corner, arc or centre that is read against a face
+abbrev pub decides : Candidate → Bool
+decides c = not (eqb c.who 0)
 
-abbrev pub alike_rows : List ℕ → List ℕ → Bool
-alike_rows x y =
-    (decides_row x && decides_row y)
-    && (eqb (deciding_in x 0) (deciding_in y 0) && (eqb (deciding_in x 1) (deciding_in y 1) && eqb (deciding_in x 2) (deciding_in y 2)))
+abbrev pub deciding : Candidate → Piece
+deciding c = cond (eqb c.who 1) c.a c.b
 
-abbrev pub decides_in : List (List ℕ) → ℕ → Bool
-decides_in named i = decides_row (get_or named i [])
+abbrev pub alike : Candidate → Candidate → Bool
+alike c d = (decides c && decides d) && same_piece (deciding c) (deciding d)
 
-abbrev pub alike_in : List (List ℕ) → ℕ → ℕ → Bool
-alike_in named i j = alike_rows (get_or named i []) (get_or named j [])
+-- the same by number
+abbrev pub decides_at : List Candidate → ℕ → Bool
+decides_at cs i = decides (candidate_at cs i)
+
+abbrev pub alike_at : List Candidate → ℕ → ℕ → Bool
+alike_at cs i j = alike (candidate_at cs i) (candidate_at cs j)
+
+-- the numbers of the candidates that are shown, in order
+unfoldable pub shown_of : List Candidate → Float → List ℕ
+shown_of cs m = shown (gap_at cs) (decides_at cs) (alike_at cs) (length cs) m
 
 -- a gap y, number j, that is negative and larger than the gap x, number i, or equal and earlier
 abbrev pub outdoes_by : Float → ℕ → Float → ℕ → Bool
 outdoes_by x i y j = lt y zero_f && (lt x y || (eq x y && ltb j i))
+
+-- ---- rows
+-- the gap that is shown is the one computed
+abbrev pub shown_gap : Float → Float
+shown_gap x = x
+
+abbrev pub row_of : ℕ → Candidate → Row
+row_of pair c = record { pair = pair; feature = record { a = c.a; b = c.b }; gap = shown_gap c.near.gap; normal = c.near.normal; point = c.near.point }
 
 -- ---- gradients and slips: a float a coordinate, the columns of body A's chain added, then those of body B's subtracted
 abbrev pub add_into : Point → List Float → Column → List Float
@@ -49,12 +70,9 @@ add_into v g k = set g k.coord (get_or g k.coord nan ⊕ dot_of v k.column)
 abbrev pub sub_from : Point → List Float → Column → List Float
 sub_from v g k = set g k.coord (get_or g k.coord nan ⊖ dot_of v k.column)
 
--- the same, one or the other
-abbrev pub changed : Bool → Float → Float → Float
-changed less x y = cond less (x ⊖ y) (x ⊕ y)
-
-abbrev pub changed_by : Bool → Point → List Float → Column → List Float
-changed_by less v g k = set g k.coord (changed less (get_or g k.coord nan) (dot_of v k.column))
+-- the same with any function of what stands at the coordinate and what the column is along v
+abbrev pub changed_by : (Float → Float → Float) → Point → List Float → Column → List Float
+changed_by f v g k = set g k.coord (f (get_or g k.coord nan) (dot_of v k.column))
 
 abbrev pub along_of : Bodies → Pose → Point → Point → ℕ → ℕ → List Float
 along_of b q v at body_a bodyB =
@@ -64,49 +82,53 @@ along_of b q v at body_a bodyB =
 abbrev pub left_of : Point → Point
 left_of n = record { x = neg n.y; y = n.x }
 
--- ---- what a pair's rows are written from: its number and its two bodies, and the rows of two numbers' arrays
-abbrev pub place_in : ℕ → List ℕ → List ℕ
-place_in pair x = pair ∷ get_or x 0 0 ∷ get_or x 1 0 ∷ get_or x 2 0 ∷ get_or x 3 0 ∷ get_or x 4 0 ∷ get_or x 5 0 ∷ []
+-- of a candidate of two bodies
+abbrev pub grad_in : Bodies → Pose → Source → Candidate → List Float
+grad_in b q s c = along_of b q (vector_of c.near.normal) c.near.point s.a s.b
 
-abbrev pub normal_in : List Float → Point
-normal_in v = record { x = get_or v 1 nan; y = get_or v 2 nan }
+abbrev pub slip_in : Bodies → Pose → Source → Candidate → List Float
+slip_in b q s c = along_of b q (left_of (vector_of c.near.normal)) c.near.point s.a s.b
 
-abbrev pub point_in : List Float → Point
-point_in v = record { x = get_or v 3 nan; y = get_or v 4 nan }
+-- ---- in lent arrays
+-- the same arrays are lent still
+pub record SameArrays (before after : LentRows) : Type 0 where
+  pub places : after.places.ghost_name ≡ before.places.ghost_name
+  pub values : after.values.ghost_name ≡ before.values.ghost_name
+  pub grad : after.grad.ghost_name ≡ before.grad.ghost_name
+  pub slip : after.slip.ghost_name ≡ before.slip.ghost_name
 
-abbrev pub grad_in : Bodies → Pose → Source → List Float → List Float
-grad_in b q s v = along_of b q (normal_in v) (point_in v) s.a s.b
+-- with the row of a candidate as row number `at`
+abbrev pub with_row : Bodies → Pose → Source → Candidate → ℕ → RowLists → RowLists
+with_row b q s c at l = record {
+  places = set l.places at (place_row (row_of s.pair c));
+  values = set l.values at (value_row (row_of s.pair c));
+  grad = sets l.grad (at * b.coords) (grad_in b q s c);
+  slip = sets l.slip (at * b.coords) (slip_in b q s c);
+}
 
-abbrev pub slip_in : Bodies → Pose → Source → List Float → List Float
-slip_in b q s v = along_of b q (left_of (normal_in v)) (point_in v) s.a s.b
-
--- from row `at` up to row r the four arrays hold what is listed, and everything else in them is as before
-pub record Put (coords : ℕ) (ps : List (List ℕ)) (vs : List (List Float)) (gs ss : List Float) (at r : ℕ)
-    (places₀ places : List (List ℕ)) (values₀ values : List (List Float)) (grad₀ grad slip₀ slip : List Float) : Type 0 where
+-- from row `at` up to row r they hold what is listed, and everything else in them is as before
+pub record Put (coords : ℕ) (ps : List (List ℕ)) (vs : List (List Float)) (gs ss : List Float) (at r : ℕ) (before after : RowLists) : Type 0 where
   pub end : r ≡ at + length ps
-  pub placed : places ≡ sets places₀ at ps
-  pub valued : values ≡ sets values₀ at vs
-  pub grads : grad ≡ sets grad₀ (at * coords) gs
-  pub slips : slip ≡ sets slip₀ (at * coords) ss
+  pub placed : after.places ≡ sets before.places at ps
+  pub valued : after.values ≡ sets before.values at vs
+  pub grads : after.grad ≡ sets before.grad (at * coords) gs
+  pub slips : after.slip ≡ sets before.slip (at * coords) ss
 
 -- there is room for n rows more
-pub record Room (coords at n : ℕ) (places : List (List ℕ)) (values : List (List Float)) (grad slip : List Float) : Type 0 where
-  pub places_room : at + n ≤ length places
-  pub values_room : at + n ≤ length values
-  pub grad_room : (at + n) * coords ≤ length grad
-  pub slip_room : (at + n) * coords ≤ length slip
-
--- the numbers of the candidates that are shown, of the first n
-abbrev pub shown_in : List (List Float) → List (List ℕ) → ℕ → Float → List ℕ
-shown_in near named n margin = shown (gap_in near) (decides_in named) (alike_in named) n margin
+pub record Room (coords at n : ℕ) (l : RowLists) : Type 0 where
+  pub places_room : at + n ≤ length l.places
+  pub values_room : at + n ≤ length l.values
+  pub grad_room : (at + n) * coords ≤ length l.grad
+  pub slip_room : (at + n) * coords ≤ length l.slip
 
 -- behind the `at` rows that are there stand the rows of the candidates numbered in `ks`
-abbrev pub PutShown : Bodies → Pose → Source → List (List Float) → List (List ℕ) → List ℕ → ℕ → ℕ → (places₀ places : List (List ℕ)) (values₀ values : List (List Float)) (grad₀ grad slip₀ slip : List Float) → Type 0
-PutShown b q s near named ks at r =
-    Put b.coords (map (λ i. place_in s.pair (get_or named i [])) ks) (map (λ i. get_or near i []) ks) (flat (λ i. grad_in b q s (get_or near i [])) ks) (flat (λ i. slip_in b q s (get_or near i [])) ks) at r
+abbrev pub PutShown : Bodies → Pose → Source → List Candidate → List ℕ → (at r : ℕ) (before after : RowLists) → Type 0
+PutShown b q s cs ks at r before after =
+    Put b.coords (map (λ i. place_row (row_of s.pair (candidate_at cs i))) ks) (map (λ i. value_row (row_of s.pair (candidate_at cs i))) ks)
+    (flat (λ i. grad_in b q s (candidate_at cs i)) ks) (flat (λ i. slip_in b q s (candidate_at cs i)) ks) at r before after
 
--- there are n candidates and room for n rows more, and no number is above its limit
-abbrev pub room_behind : (coords at n near named places values grad slip : ℕ) → Bool
-room_behind coords at n near named places values grad slip =
+-- there is room for n rows more, and no number is above its limit
+abbrev pub room_behind : (coords at n : ℕ) → RowLists → Bool
+room_behind coords at n l =
     (leb coords 16 && (leb at 23296 && leb n 1456))
-    && ((leb n near && leb n named) && ((leb (at + n) places && leb (at + n) values) && (leb ((at + n) * coords) grad && leb ((at + n) * coords) slip)))
+    && ((leb (at + n) (length l.places) && leb (at + n) (length l.values)) && (leb ((at + n) * coords) (length l.grad) && leb ((at + n) * coords) (length l.slip)))

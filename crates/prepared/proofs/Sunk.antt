@@ -18,6 +18,7 @@ use Rattle.mechanism.specs.declared.Outlines.{Outlines}
 use Rattle.mechanism.specs.declared.Parts.{Parts}
 use Rattle.mechanism.specs.declared.pair.Surface.{Surface}
 use Rattle.bodies.specs.declared.pose.Pose.{Pose}
+use Rattle.strips.specs.Strips.{TableRows}
 use Rattle.material.specs.Material.{Material, deepest_of}
 use Rattle.drawing.specs.Drawing.{is_own, is_sampled, chosen_as}
 use Rattle.drawing.specs.Samples.{mouths_of, part_samples}
@@ -58,13 +59,13 @@ owner-is ps u i h =
     ap (λ (x : ℕ). eqb x 1) (list_get f 0 32 0 i h ∙ ap f (zero-add i)) ∙ is_one (is_own u i) (is_sampled (part_at ps i))
 
 -- ---- the deepest sample
-pub sunk_read : (ps : Parts) (o : Outlines) → FewParts ps → (q : Pose) (sampled : List (List Float)) → Agrees sampled (sampled_table ps o) → (u : Surface) (m : Material)
-    → sunk_in sampled (part_table ps o) q (sampled_of_side ps u) m ≡ sunk_of ps o q (owner_in ps u) m
+pub sunk_read : (ps : Parts) (o : Outlines) → FewParts ps → (t : TableRows) → t.parts ≡ part_table ps o → (q : Pose) → Agrees t.sampled (sampled_table ps o) → (u : Surface) (m : Material)
+    → sunk_in t q (sampled_of_side ps u) m ≡ sunk_of ps o q (owner_in ps u) m
 unfolding sunk_in samples_in
-sunk_read ps o few q sampled agree u m =
+sunk_read ps o few t stands q agree u m =
     let n = few.count in
-    let deeper : Float → ℕ → Float = λ d i. deepest_of m d (samples_in sampled (part_table ps o) q i) in
-    ap (λ (k : ℕ). foldl deeper zero_f (filter_in (chosen_as (sampled_of_side ps u) 1) k 0)) (parts-in ps o few)
+    let deeper : Float → ℕ → Float = λ d i. deepest_of m d (samples_in t q i) in
+    ap (λ (k : ℕ). foldl deeper zero_f (filter_in (chosen_as (sampled_of_side ps u) 1) k 0)) (parts-in ps o few t stands)
     ∙ ap (foldl deeper zero_f) (filter_same (chosen_as (sampled_of_side ps u) 1) (owner_in ps u) ps.count 0 (λ i l. owner-is ps u i (omega (arith, l, n))))
-    ∙ fold_passed (deepest_of m) (samples_in sampled (part_table ps o) q) (part_samples ps o q (mouths_of ps o)) (owner_in ps u) ps.count 0 zero_f
-    (λ i l t. samples_read ps o few q i (omega (arith, l)) sampled agree (and_second (is_own u i) (is_sampled (part_at ps i)) t))
+    ∙ fold_passed (deepest_of m) (samples_in t q) (part_samples ps o q (mouths_of ps o)) (owner_in ps u) ps.count 0 zero_f
+    (λ i l k. samples_read ps o few t stands q i (omega (arith, l)) agree (and_second (is_own u i) (is_sampled (part_at ps i)) k))

@@ -12,16 +12,13 @@ use ieee::num::plain_zero;
 use mechanism::Mechanism;
 use mechanism::bearing::{Bearing, HowItBears};
 use mechanism::check::segs_counted;
-use mechanism::rows::{Place, Value};
+use mechanism::rows::RowArrays;
 use overlap::prepared::pair_overlap;
 use reading::prepared::read_in;
 use reading::{PairReading, Reading};
 use std::io;
 use std::io::{BufWriter, Write};
-use tables::{
-    CenterRows, ChoiceRows, DiscNames, DiscRows, DrawnRows, FaceNames, FaceRows, PartRows,
-    SampledRows, SideRows,
-};
+use tables::Arrays;
 
 // ---- one number for many
 
@@ -86,115 +83,26 @@ fn with_pairs(h: u64, r: Reading) -> u64 {
 
 // ---- a reading
 
-// The tables of a description.
-#[derive(Drop)]
-struct Tables {
-    drawn: DrawnRows,
-    sampled: SampledRows,
-    parts: PartRows,
-    faces: FaceRows,
-    fnames: FaceNames,
-    discs: DiscRows,
-    dnames: DiscNames,
-    sides: SideRows,
-    centers: CenterRows,
-    choices: ChoiceRows,
-}
-
-fn blank_tables() -> Tables {
-    Tables {
-        drawn: [[0.0; 2]; 6144],
-        sampled: [[0.0; 2]; 13056],
-        parts: [[0; 5]; 32],
-        faces: [[0.0; 6]; 384],
-        fnames: [[0; 3]; 384],
-        discs: [[0.0; 7]; 896],
-        dnames: [[0; 3]; 896],
-        sides: [[0; 7]; 32],
-        centers: [[0.0; 2]; 32],
-        choices: [[0; 32]; 64],
-    }
-}
-
-// The tables of a description, which were the larger one's before.
-fn prepared(larger: Mechanism, m: Mechanism) -> Result<Tables, Problem> {
-    let mut t = blank_tables();
-    for m in [larger, m] {
-        tables::prepare(
-            m,
-            &mut t.drawn,
-            &mut t.sampled,
-            &mut t.parts,
-            &mut t.faces,
-            &mut t.fnames,
-            &mut t.discs,
-            &mut t.dnames,
-            &mut t.sides,
-            &mut t.centers,
-            &mut t.choices,
-        )?;
-    }
-    Ok(t)
-}
-
 // What is lent for rows.
-#[derive(Drop)]
-struct Rows {
-    places: [Place; 256],
-    values: [Value; 256],
-    grad: [f64; 4096],
-    slip: [f64; 4096],
-}
-
-fn blank_rows() -> Rows {
-    Rows {
-        places: [[0; 7]; 256],
-        values: [[0.0; 5]; 256],
-        grad: [0.0; 4096],
-        slip: [0.0; 4096],
-    }
-}
+type Rows = RowArrays<256, 4096>;
 
 // Reads the prepared description at the pose that the entries give.
-fn read_at(t: &Tables, m: Mechanism, q: &[Lent], margin: f64) -> Result<(Reading, Rows), Problem> {
-    let mut rows = blank_rows();
+fn read_at(t: &Arrays, m: Mechanism, q: &[Lent], margin: f64) -> Result<(Reading, Rows), Problem> {
+    let mut rows = Rows::blank();
     let r = read_in(
         m.bodies,
-        &t.faces,
-        &t.fnames,
-        &t.discs,
-        &t.dnames,
-        &t.sides,
-        &t.centers,
-        &t.choices,
-        &t.drawn,
-        &t.sampled,
-        &t.parts[..m.parts.count.min(32)],
+        &t.lent(m.parts.count),
         m.pairs.count,
         q,
         margin,
-        &mut rows.places,
-        &mut rows.values,
-        &mut rows.grad,
-        &mut rows.slip,
+        &mut rows.lent(),
     )?;
     Ok((r, rows))
 }
 
 // The overlap of a pair of the prepared description.
-fn overlap_at(t: &Tables, m: Mechanism, q: Pose, pair: usize) -> Result<f64, Problem> {
-    pair_overlap(
-        m.bodies,
-        &t.drawn,
-        &t.sampled,
-        &t.parts[..m.parts.count.min(32)],
-        &t.sides,
-        &t.centers,
-        &t.choices,
-        m.pairs.count,
-        q,
-        pair,
-    )
+fn overlap_at(t: &Arrays, m: Mechanism, q: Pose, pair: usize) -> Result<f64, Problem> {
+    pair_overlap(m.bodies, &t.lent(m.parts.count), m.pairs.count, q, pair)
 }
 
 // A number that was read twice; -1 where the second answer is not that number.
@@ -206,7 +114,7 @@ fn agreed(x: f64, a: Result<f64, Problem>) -> f64 {
 }
 
 // The reading, its overlaps held to those that `pair_overlap` gives.
-fn asked(r: Reading, t: &Tables, m: Mechanism, q: Pose) -> Reading {
+fn asked(r: Reading, t: &Arrays, m: Mechanism, q: Pose) -> Reading {
     let mut held = r;
     for i in 0..r.pairs.min(16) {
         held.pair[i].overlap = agreed(r.pair[i].overlap, overlap_at(t, m, q, i));
@@ -237,11 +145,13 @@ struct Whole {
     coords: usize,
 }
 
-// Prepares a text's description in tables that were prepared for the largest one before it, which is then noted, and reads it.
+// Prepares a text's description in arrays that were prepared for the largest one before it, which is then noted, and reads it.
 fn read_text(largest: &mut Option<Mechanism>, text: &[u8]) -> Result<Whole, Problem> {
     let s = sheet::read(text)?;
     let m = s.mechanism;
-    let t = prepared(largest.unwrap_or(m), m)?;
+    let mut t = Arrays::blank();
+    t.prepare(largest.unwrap_or(m))?;
+    t.prepare(m)?;
     *largest = Some(larger(*largest, m));
     let lent = sheet::posed::lent(s.entries);
     let q = &lent[..s.entries.count.min(16)];
@@ -262,17 +172,9 @@ fn answer<W: Write>(out: &mut W, largest: &mut Option<Mechanism>, text: &[u8]) -
 }
 
 fn main(rt: HostRuntime) -> io::Result<()> {
-    let mut input = rt.stdin();
     let mut out = BufWriter::new(rt.alloc(), rt.stdout())?;
     let mut largest = None;
-    let mut buf = [0u8; 65537];
-    for _ in 0..1000000 {
-        let Some(n) = streams::next_text(&mut input, &mut buf)? else {
-            break;
-        };
-        if let Some(text) = buf.get(..n) {
-            answer(&mut out, &mut largest, text)?;
-        }
-    }
-    out.flush()
+    streams::for_each_text(&mut rt.stdin(), &mut out, |out, text| {
+        answer(out, &mut largest, text)
+    })
 }

@@ -1,18 +1,17 @@
--- Candidates written into the two lent arrays: nothing, one after the other, and the loops that write those of a list's elements in turn. Assumes nothing.
+-- Candidates written into a lent array: nothing, one after the other, and the loops that write those of a list's elements in turn. Assumes nothing.
 use Prim.Native.Nat.{ℕ, ◌+◌, ◌*◌, ◌<◌, ◌≤◌}
 use native.Mathlib.Omega.{arith}
 use native.Mathlib.Numerals.{add-one}
 use native.Mathlib.Nat.{add-zero, add_assoc, mul-le-mul, add-mul}
 use mathlib.Core.Path.{◌≡◌, refl, sym, ap, subst, ◌∙◌}
-use mathlib.Core.Bool.{◌&&◌, cond}
-use mathlib.Core.List.{List, [], ◌∷◌, ◌++◌, map, map-append, append-nil}
+use mathlib.Core.Bool.{cond}
+use mathlib.Core.List.{List, [], ◌∷◌, ◌++◌, append-nil}
 use lib.Dec.{ltb}
-use lib.Ieee.{Float}
-use lib.ListN.{length, take, get_or, length-append, length-map, length-take}
+use lib.ListN.{length, take, get_or, length-append, length-take}
 use lib.Seq.{sets, length-sets, take-suc, take_all}
 use borrow.Author.Tests.{lt-ltb}
 use Rattle.laws.specs.Lists.{flat}
-use Rattle.laws.proofs.Choice.{and_yes, cond_yes}
+use Rattle.laws.proofs.Choice.{cond_yes}
 use Rattle.laws.proofs.Lists.{flat_append, flat-short}
 use Rattle.laws.proofs.Writing.{sets-append}
 use Rattle.geometry.specs.Signed.{disc_on_face, disc_on_disc, center_on_face, on_a, on_b}
@@ -23,41 +22,33 @@ use Rattle.material.specs.Material.{Material}
 use Rattle.sides.specs.declared.PlacedDisc.{PlacedDisc}
 use Rattle.sides.specs.declared.PlacedFace.{PlacedFace}
 use Rattle.proximities.specs.declared.Candidate.{Candidate}
-use Rattle.proximities.specs.Proximities.{reading, kept_if, exchanged, real_of, center_real, read_ab, read_ba, read_discs, read_center, each, near_row, named_row, Written}
+use Rattle.proximities.specs.Proximities.{reading, kept_if, exchanged, real_of, center_real, read_ab, read_ba, read_discs, read_center, each, Written}
 use Rattle.std.proofs.Common.{Option, Some, None}
 
-pub wrote_nothing : (at : ℕ) (near : List (List Float)) (named : List (List ℕ)) → Written [] at at near near named named
-wrote_nothing at near named = record { end = sym (add-zero at); nears = refl; names = refl }
+pub wrote_nothing : (at : ℕ) (out : List Candidate) → Written [] at at out out
+wrote_nothing at out = record { end = sym (add-zero at); written = refl }
 
 -- of the same candidates
-pub wrote_same : {l m : List Candidate} {at r : ℕ} {near₀ near : List (List Float)} {named₀ named : List (List ℕ)} → l ≡ m → Written l at r near₀ near named₀ named → Written m at r near₀ near named₀ named
-wrote_same {at = at} {r} {near₀} {near} {named₀} {named} e w = subst (λ (x : List Candidate). Written x at r near₀ near named₀ named) e w
+pub wrote_same : {l m : List Candidate} {at r : ℕ} {before after : List Candidate} → l ≡ m → Written l at r before after → Written m at r before after
+wrote_same {at = at} {r} {before} {after} e w = subst (λ (x : List Candidate). Written x at r before after) e w
 
-after : {A : Type 0} (g : Candidate → A) (x y : List Candidate) (out₀ out₁ out₂ : List A) (at i : ℕ) → i ≡ at + length x → out₁ ≡ sets out₀ at (map g x) → out₂ ≡ sets out₁ i (map g y) → out₂ ≡ sets out₀ at (map g (x ++ y))
-after {A} g x y out₀ out₁ out₂ at i e p q =
-    q ∙ ap (λ (l : List A). sets l i (map g y)) p ∙ ap (λ (k : ℕ). sets (sets out₀ at (map g x)) k (map g y)) (e ∙ ap (λ (k : ℕ). at + k) (sym (length-map x g)))
-    ∙ sym (sets-append (map g x) (map g y) out₀ at) ∙ ap (sets out₀ at) (sym (map-append g x y))
-
-module _ {x : List Candidate} {at i : ℕ} {near₀ near : List (List Float)} {named₀ named : List (List ℕ)} where
+module _ {x : List Candidate} {at i : ℕ} {before mid : List Candidate} where
   -- one after the other
-  pub wrote_both : {y : List Candidate} {r : ℕ} {near' : List (List Float)} {named' : List (List ℕ)} → Written x at i near₀ near named₀ named → Written y i r near near' named named' → Written (x ++ y) at r near₀ near' named₀ named'
-  wrote_both {y} {r} {near'} {named'} v w = record {
+  pub wrote_both : {y : List Candidate} {r : ℕ} {after : List Candidate} → Written x at i before mid → Written y i r mid after → Written (x ++ y) at r before after
+  wrote_both {y} v w = record {
     end = w.end ∙ ap (λ (k : ℕ). k + length y) v.end ∙ add_assoc at (length x) (length y) ∙ ap (λ (k : ℕ). at + k) (sym (length-append x y));
-    nears = after near_row x y near₀ near near' at i v.end v.nears w.nears;
-    names = after named_row x y named₀ named named' at i v.end v.names w.names;
+    written =
+        w.written ∙ ap (λ (l : List Candidate). sets l i y) v.written ∙ ap (λ (k : ℕ). sets (sets before at x) k y) v.end
+        ∙ sym (sets-append x y before at);
   }
 
-  -- the arrays keep their lengths
-  pub wrote_near : Written x at i near₀ near named₀ named → length near ≡ length near₀
-  wrote_near w = ap length w.nears ∙ length-sets near₀ at (map near_row x)
+  -- the array keeps its length
+  pub wrote_length : Written x at i before mid → length mid ≡ length before
+  wrote_length w = ap length w.written ∙ length-sets before at x
 
-  pub wrote_named : Written x at i near₀ near named₀ named → length named ≡ length named₀
-  wrote_named w = ap length w.names ∙ length-sets named₀ at (map named_row x)
-
--- what is written where the arrays have room, in arrays that have it
-pub wrote_read : {l : List Candidate} {at r : ℕ} {near₀ near : List (List Float)} {named₀ named : List (List ℕ)} → (at < length near₀) × (at < length named₀)
-    → Written (cond (ltb at (length near₀) && ltb at (length named₀)) l []) at r near₀ near named₀ named → Written l at r near₀ near named₀ named
-wrote_read {l} {at} {near₀ = near₀} {named₀ = named₀} h w = wrote_same (cond_yes l [] (and_yes (ltb at (length named₀)) (lt-ltb at (length near₀) h.0) ∙ lt-ltb at (length named₀) h.1)) w
+-- what is written where the array has room, in an array that has it
+pub wrote_read : {l : List Candidate} {at r : ℕ} {before after : List Candidate} → at < length before → Written (cond (ltb at (length before)) l []) at r before after → Written l at r before after
+wrote_read {l} {at} {before = before} h w = wrote_same (cond_yes l [] (lt-ltb at (length before) h)) w
 
 reading-short : (a b : Piece) (who : ℕ) (found : Option Proximity) → length (reading a b who found) ≤ 1
 reading-short a b who None = omega arith
@@ -80,20 +71,23 @@ unfolding read_center
 center_short m piece c f = reading-short f.piece piece 2 (kept_if (λ x. center_real m c x.gap) (center_on_face c f.face))
 
 -- a reading that is written, by its name
-module _ {found : Option Proximity} {at r : ℕ} {near₀ near : List (List Float)} {named₀ named : List (List ℕ)} where
-  pub wrote_ab : (m : Material) (d : PlacedDisc) (f : PlacedFace) → found ≡ kept_if (λ x. real_of m x.gap (on_a x)) (disc_on_face d.disc f.face) → Written (reading d.piece f.piece 1 found) at r near₀ near named₀ named → Written (read_ab m d f) at r near₀ near named₀ named
+module _ {found : Option Proximity} {at r : ℕ} {before after : List Candidate} where
+  pub wrote_ab : (m : Material) (d : PlacedDisc) (f : PlacedFace) → found ≡ kept_if (λ x. real_of m x.gap (on_a x)) (disc_on_face d.disc f.face)
+      → Written (reading d.piece f.piece 1 found) at r before after → Written (read_ab m d f) at r before after
   unfolding read_ab
   wrote_ab m d f e w = wrote_same (ap (reading d.piece f.piece 1) e) w
 
-  pub wrote_ba : (m : Material) (d : PlacedDisc) (f : PlacedFace) → found ≡ kept_if (λ x. real_of m x.gap (on_b x)) (exchanged (disc_on_face d.disc f.face)) → Written (reading f.piece d.piece 2 found) at r near₀ near named₀ named → Written (read_ba m d f) at r near₀ near named₀ named
+  pub wrote_ba : (m : Material) (d : PlacedDisc) (f : PlacedFace) → found ≡ kept_if (λ x. real_of m x.gap (on_b x)) (exchanged (disc_on_face d.disc f.face))
+      → Written (reading f.piece d.piece 2 found) at r before after → Written (read_ba m d f) at r before after
   unfolding read_ba
   wrote_ba m d f e w = wrote_same (ap (reading f.piece d.piece 2) e) w
 
-  pub wrote_discs : (d e : PlacedDisc) → found ≡ disc_on_disc d.disc e.disc → Written (reading d.piece e.piece 0 found) at r near₀ near named₀ named → Written (read_discs d e) at r near₀ near named₀ named
+  pub wrote_discs : (d e : PlacedDisc) → found ≡ disc_on_disc d.disc e.disc → Written (reading d.piece e.piece 0 found) at r before after → Written (read_discs d e) at r before after
   unfolding read_discs
   wrote_discs d e h w = wrote_same (ap (reading d.piece e.piece 0) h) w
 
-  pub wrote_center : (m : Material) (piece : Piece) (c : Point) (f : PlacedFace) → found ≡ kept_if (λ x. center_real m c x.gap) (center_on_face c f.face) → Written (reading f.piece piece 2 found) at r near₀ near named₀ named → Written (read_center m piece c f) at r near₀ near named₀ named
+  pub wrote_center : (m : Material) (piece : Piece) (c : Point) (f : PlacedFace) → found ≡ kept_if (λ x. center_real m c x.gap) (center_on_face c f.face)
+      → Written (reading f.piece piece 2 found) at r before after → Written (read_center m piece c f) at r before after
   unfolding read_center
   wrote_center m piece c f e w = wrote_same (ap (reading f.piece piece 2) e) w
 
@@ -120,12 +114,12 @@ one_more i n b h =
     omega arith
 
 -- ---- a loop over the elements of l: those of the first i are written from `at` up to `to`
-pub record Wrote {A : Type 0} (f : A → List Candidate) (l : List A) (at to i : ℕ) (near₀ near : List (List Float)) (named₀ named : List (List ℕ)) : Type 0 where
-  pub done : Written (flat f (take i l)) at to near₀ near named₀ named
+pub record Wrote {A : Type 0} (f : A → List Candidate) (l : List A) (at to i : ℕ) (before after : List Candidate) : Type 0 where
+  pub done : Written (flat f (take i l)) at to before after
 
-pub wrote_start : {A : Type 0} (f : A → List Candidate) (l : List A) (at : ℕ) (near : List (List Float)) (named : List (List ℕ)) → Wrote f l at at 0 near near named named
+pub wrote_start : {A : Type 0} (f : A → List Candidate) (l : List A) (at : ℕ) (out : List Candidate) → Wrote f l at at 0 out out
 unfolding flat
-wrote_start f l at near named = record { done = wrote_nothing at near named }
+wrote_start f l at out = record { done = wrote_nothing at out }
 
 flat-next : {A : Type 0} (f : A → List Candidate) (l : List A) (i : ℕ) (d : A) → i < length l → flat f (take (i + 1) l) ≡ flat f (take i l) ++ f (get_or l i d)
 unfolding flat
@@ -133,28 +127,26 @@ flat-next {A} f l i d h =
     ap (λ (k : ℕ). flat f (take k l)) (add-one i) ∙ ap (flat f) (take-suc l i d h) ∙ flat_append f (take i l) (get_or l i d ∷ [])
     ∙ ap (λ (m : List Candidate). flat f (take i l) ++ m) (append-nil (f (get_or l i d)))
 
-module _ {A : Type 0} {f : A → List Candidate} {l : List A} {at to i : ℕ} {near₀ near : List (List Float)} {named₀ named : List (List ℕ)} (w : Wrote f l at to i near₀ near named₀ named) where
-  pub wrote_more : {to' : ℕ} {near' : List (List Float)} {named' : List (List ℕ)} (d : A) → i < length l → Written (f (get_or l i d)) to to' near near' named named' → Wrote f l at to' (i + 1) near₀ near' named₀ named'
+module _ {A : Type 0} {f : A → List Candidate} {l : List A} {at to i : ℕ} {before mid : List Candidate} (w : Wrote f l at to i before mid) where
+  pub wrote_more : {to' : ℕ} {after : List Candidate} (d : A) → i < length l → Written (f (get_or l i d)) to to' mid after → Wrote f l at to' (i + 1) before after
   wrote_more d h v = record { done = wrote_same (sym (flat-next f l i d h)) (wrote_both w.done v) }
 
-  pub wrote_end : length l ≤ i → Written (flat f l) at to near₀ near named₀ named
+  pub wrote_end : length l ≤ i → Written (flat f l) at to before mid
   wrote_end h = wrote_same (ap (flat f) (take_all i l h)) w.done
 
   -- room for one more turn, where an element gives at most b
-  pub wrote_room : (b n : ℕ) → ((x : A) → length (f x) ≤ b) → i < n → at + n * b ≤ length near₀ → at + n * b ≤ length named₀ → (to + b ≤ length near) × (to + b ≤ length named)
-  wrote_room b n h k p q =
+  pub wrote_room : (b n : ℕ) → ((x : A) → length (f x) ≤ b) → i < n → at + n * b ≤ length before → to + b ≤ length mid
+  wrote_room b n h k p =
       let e = w.done.end in
       let s = flat-first-few f b h l i in
       let o = one_more i n b k in
-      let x = wrote_near w.done in
-      let y = wrote_named w.done in
-      (omega (arith, e, s, o, p, x), omega (arith, e, s, o, q, y))
+      let x = wrote_length w.done in
+      omega (arith, e, s, o, p, x)
 
   -- and where an element gives at most one
-  pub wrote_one : (n : ℕ) → ((x : A) → length (f x) ≤ 1) → i < n → at + n ≤ length near₀ → at + n ≤ length named₀ → (to < length near) × (to < length named)
-  wrote_one n h k p q =
+  pub wrote_one : (n : ℕ) → ((x : A) → length (f x) ≤ 1) → i < n → at + n ≤ length before → to < length mid
+  wrote_one n h k p =
       let e = w.done.end in
       let s = flat-first-few f 1 h l i in
-      let x = wrote_near w.done in
-      let y = wrote_named w.done in
-      (omega (arith, e, s, k, p, x), omega (arith, e, s, k, q, y))
+      let x = wrote_length w.done in
+      omega (arith, e, s, k, p, x)

@@ -1,7 +1,8 @@
 -- One reading of two features at a pose (contact/rows.rs: `turned`, `world_face`, `world_disc`, `read_pair`, `real`), and candidates in lent arrays.
 -- Definitions only.
-use Rattle.std.specs.Prelude.{ℕ, ◌+◌, ◌≡◌, Bool, false, not, ◌&&◌, ◌||◌, cond, List, [], ◌∷◌, map, ltb, length, Float, Option, Some, None, unwrap_or}
+use Rattle.std.specs.Prelude.{ℕ, ◌+◌, ◌≡◌, Bool, false, not, ◌||◌, cond, List, [], ◌∷◌, ltb, length, Float, Option, Some, None, unwrap_or}
 use Rattle.std.proofs.lemmas.List.Edits.{sets}
+use Rattle.std.specs.Float.{nan}
 use Rattle.std.specs.Float.Ieee.{le, neg}
 use Rattle.laws.specs.Lists.{flat}
 use Rattle.ieee.specs.Consts.{row_margin}
@@ -13,9 +14,9 @@ use Rattle.geometry.specs.declared.Point.{Point}
 use Rattle.geometry.specs.declared.signed.Disc.{Disc}
 use Rattle.geometry.specs.declared.signed.Face.{Face}
 use Rattle.geometry.specs.declared.signed.Proximity.{Proximity}
-use Rattle.mechanism.specs.Piece.{letter_of, part_of, seg_of}
 use Rattle.bodies.specs.Pose.{is_world, rotate_of, world_of}
 use Rattle.mechanism.specs.declared.features.Piece.{Piece}
+use Rattle.mechanism.specs.declared.features.Piece.TheVariants.{Center}
 use Rattle.bodies.specs.declared.pose.Placement.{Placement}
 use Rattle.material.specs.Material.{Material, holds_of, depth_of}
 use Rattle.sides.specs.declared.PlacedDisc.{PlacedDisc}
@@ -38,9 +39,9 @@ abbrev pub reading : Piece → Piece → ℕ → Option Proximity → List Candi
 reading a b who None = []
 reading a b who (Some x) = record { a = a; b = b; who = who; near = x } ∷ []
 
--- the candidate of a reading, where number `at` is in both arrays
-abbrev pub reading_at : (near named at : ℕ) → Piece → Piece → ℕ → Option Proximity → List Candidate
-reading_at near named at a b who found = cond (ltb at near && ltb at named) (reading a b who found) []
+-- the candidate of a reading, where number `at` is in an array of n
+abbrev pub reading_at : (n at : ℕ) → Piece → Piece → ℕ → Option Proximity → List Candidate
+reading_at n at a b who found = cond (ltb at n) (reading a b who found) []
 
 abbrev pub kept_if : (Proximity → Bool) → Option Proximity → Option Proximity
 kept_if p None = None
@@ -84,15 +85,16 @@ abbrev pub found_deep : Option Proximity → Bool
 found_deep None = false
 found_deep (Some x) = is_deep x.gap
 
--- ---- in lent arrays: a row of five numbers, the gap, the normal and the point; and a row of seven whole numbers, both pieces and who decides
-abbrev pub near_row : Candidate → List Float
-near_row c = c.near.gap ∷ c.near.normal.x ∷ c.near.normal.y ∷ c.near.point.x ∷ c.near.point.y ∷ []
+-- ---- in a lent array
+abbrev pub no_candidate : Candidate
+no_candidate = record {
+  a = Center 0;
+  b = Center 0;
+  who = 0;
+  near = record { gap = nan; normal = record { x = nan; y = nan }; point = record { x = nan; y = nan } };
+}
 
-abbrev pub named_row : Candidate → List ℕ
-named_row c = letter_of c.a ∷ part_of c.a ∷ seg_of c.a ∷ letter_of c.b ∷ part_of c.b ∷ seg_of c.b ∷ c.who ∷ []
-
--- the candidates l stand in the two arrays from `at` up to r, and everything else in them is as before
-pub record Written (l : List Candidate) (at r : ℕ) (near₀ near : List (List Float)) (named₀ named : List (List ℕ)) : Type 0 where
+-- the candidates l stand in the array from `at` up to r, and everything else in it is as before
+pub record Written (l : List Candidate) (at r : ℕ) (before after : List Candidate) : Type 0 where
   pub end : r ≡ at + length l
-  pub nears : near ≡ sets near₀ at (map near_row l)
-  pub names : named ≡ sets named₀ at (map named_row l)
+  pub written : after ≡ sets before at l

@@ -1,18 +1,16 @@
-// One reading of two features at a pose, and a candidate into lent arrays (contact/rows.rs: `turned`, `world_face`, `world_disc`, `real`).
+// One reading of two features at a pose, and candidates in lent arrays (contact/rows.rs: `turned`, `world_face`, `world_disc`, `real`).
 #![tactic(auto)]
 
 ghost use Rattle.std.specs.Prelude.{◌≡◌, ◌+◌, ◌<◌, length};
 ghost use Rattle.geometry.specs.Signed.{disc_on_face, center_on_face, on_a, on_b};
-ghost use Rattle.material.specs.Material.{material_of};
-ghost use Rattle.proximities.specs.Proximities.{turned_of, world_face, world_disc, is_deep, real_of, center_real, kept_if, exchanged, reading_at, found_deep, Written};
+ghost use Rattle.material.specs.Material.{drawn_material};
+ghost use Rattle.proximities.specs.Proximities.{turned_of, world_face, world_disc, is_deep, real_of, center_real, kept_if, exchanged, reading_at, found_deep, no_candidate, Written};
 
 use bodies::pose::Placement;
-use drawing::Polygons;
 use geometry::signed::{Disc, Face, Proximity};
 use geometry::{Dir, Point};
-use material::{Spot, depth, holds};
-use mechanism::features::{Piece, letter, part, seg};
-use mechanism::rows::{Place, Value};
+use material::DrawnMaterial;
+use mechanism::features::Piece;
 
 // A reading of two pieces, and which of them decides: 1 side A's, 2 side B's, 0 none.
 #[derive(Clone, Copy)]
@@ -57,24 +55,40 @@ pub fn world_disc(place: Placement, d: Disc) -> Disc
     }
 }
 
-// ---- one reading into the lent arrays
+// ---- candidates in a lent array
 
-// Writes a candidate at `at`, where something is read and the arrays have room for it.
+// A candidate for the places of an array that nothing was written to.
+#[tactic(auto, using(ieee::proofs::Values::zero_over_zero))]
+pub fn no_candidate() -> Candidate
+    ensures { result ≡ no_candidate }
+{
+    let nan = 0.0 / 0.0;
+    Candidate {
+        a: Piece::Center { part: 0 },
+        b: Piece::Center { part: 0 },
+        who: 0,
+        near: Proximity {
+            gap: nan,
+            normal: Dir { x: nan, y: nan },
+            point: Point { x: nan, y: nan },
+        },
+    }
+}
+
+// Writes a candidate at `at`, where something is read and the array has room for it.
 pub fn put_candidate(
-    near: &mut [Value],
-    named: &mut [Place],
+    out: &mut [Candidate],
     at: usize,
     a: Piece,
     b: Piece,
     who: usize,
     found: Option<Proximity>,
 ) -> usize
-    ensures { Written (reading_at (length near.old) (length named.old) at a b who found) at result near.old near.new named.old named.new }
+    ensures { Written (reading_at (length out.old) at a b who found) at result out.old out.new }
 {
     match found {
-        Some(x) if at < near.len() && at < named.len() => {
-            near[at] = [x.gap, x.normal.x, x.normal.y, x.point.x, x.point.y];
-            named[at] = [letter(a), part(a), seg(a), letter(b), part(b), seg(b), who];
+        Some(near) if at < out.len() => {
+            out[at] = Candidate { a, b, who, near };
             at + 1
         }
         _ => at,
@@ -90,57 +104,41 @@ fn is_deep(gap: f64) -> bool
 }
 
 // Whether a reading counts: not a deep one, or one whose point the material holds.
-fn real(points: &[Spot], starts: &[usize], n: Polygons, gap: f64, p: Point) -> bool
-    ensures { result ≡ real_of (material_of points.now starts.now n.solids n.all) gap p }
+fn real(m: &DrawnMaterial, gap: f64, p: Point) -> bool
+    ensures { result ≡ real_of (drawn_material m.now) gap p }
 {
-    !is_deep(gap) || holds(points, starts, n.solids, n.all, p)
+    !is_deep(gap) || m.holds(p)
 }
 
 // Side A's disc on side B's face.
-pub fn on_face_b(
-    points: &[Spot],
-    starts: &[usize],
-    n: Polygons,
-    d: Disc,
-    f: Face,
-) -> Option<Proximity>
-    ensures { result ≡ kept_if (λ x. real_of (material_of points.now starts.now n.solids n.all) x.gap (on_a x)) (disc_on_face d f) }
+pub fn on_face_b(m: &DrawnMaterial, d: Disc, f: Face) -> Option<Proximity>
+    ensures { result ≡ kept_if (λ x. real_of (drawn_material m.now) x.gap (on_a x)) (disc_on_face d f) }
 {
-    geometry::signed::disc_on_face(d, f).filter(|x| real(points, starts, n, x.gap, x.on_a()))
+    let near = geometry::signed::disc_on_face(d, f)?;
+    real(m, near.gap, near.on_a()).then_some(near)
 }
 
 // Side B's disc on side A's face, read from A.
-pub fn on_face_a(
-    points: &[Spot],
-    starts: &[usize],
-    n: Polygons,
-    d: Disc,
-    f: Face,
-) -> Option<Proximity>
-    ensures { result ≡ kept_if (λ x. real_of (material_of points.now starts.now n.solids n.all) x.gap (on_b x)) (exchanged (disc_on_face d f)) }
+pub fn on_face_a(m: &DrawnMaterial, d: Disc, f: Face) -> Option<Proximity>
+    ensures { result ≡ kept_if (λ x. real_of (drawn_material m.now) x.gap (on_b x)) (exchanged (disc_on_face d f)) }
 {
-    let found = geometry::signed::disc_on_face(d, f).map(|x| x.reversed());
-    found.filter(|x| real(points, starts, n, x.gap, x.on_b()))
+    let near = geometry::signed::disc_on_face(d, f)?.reversed();
+    real(m, near.gap, near.on_b()).then_some(near)
 }
 
 // ---- the centre of side B on a face of side A
 
-fn center_real(points: &[Spot], starts: &[usize], n: Polygons, p: Point, gap: f64) -> bool
-    ensures { result ≡ center_real (material_of points.now starts.now n.solids n.all) p gap }
+fn center_real(m: &DrawnMaterial, p: Point, gap: f64) -> bool
+    ensures { result ≡ center_real (drawn_material m.now) p gap }
 {
-    !is_deep(gap) || -gap - 0.001 <= depth(points, starts, n.solids, n.all, p)
+    !is_deep(gap) || -gap - 0.001 <= m.depth(p)
 }
 
-pub fn center_on(
-    points: &[Spot],
-    starts: &[usize],
-    n: Polygons,
-    c: Point,
-    f: Face,
-) -> Option<Proximity>
-    ensures { result ≡ kept_if (λ x. center_real (material_of points.now starts.now n.solids n.all) c x.gap) (center_on_face c f) }
+pub fn center_on(m: &DrawnMaterial, c: Point, f: Face) -> Option<Proximity>
+    ensures { result ≡ kept_if (λ x. center_real (drawn_material m.now) c x.gap) (center_on_face c f) }
 {
-    geometry::signed::center_on_face(c, f).filter(|x| center_real(points, starts, n, c, x.gap))
+    let near = geometry::signed::center_on_face(c, f)?;
+    center_real(m, c, near.gap).then_some(near)
 }
 
 // ---- whether the material is asked for

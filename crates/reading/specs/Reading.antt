@@ -4,7 +4,7 @@ use Rattle.laws.specs.Fill.{filled}
 use Rattle.laws.specs.Lists.{list_in}
 use Rattle.ieee.specs.Consts.{zero_f}
 use Rattle.mechanism.specs.Description.{pair_at}
-use Rattle.mechanism.specs.Rows.{place_row, value_row, pair_in, gap_in}
+use Rattle.mechanism.specs.Rows.{RowLists, place_row, value_row, pair_in, gap_in}
 use Rattle.mechanism.specs.declared.Mechanism.{Mechanism}
 use Rattle.bodies.specs.declared.pose.Pose.{Pose}
 use Rattle.mechanism.specs.declared.rows.Row.{Row}
@@ -34,8 +34,12 @@ pair_reading m q places values n i = record {
 abbrev pub no_pair_reading : PairReading
 no_pair_reading = record { overlap = zero_f; face_overlap = zero_f; bearing = None }
 
+-- what is read of the first n pairs, one by one
+abbrev pub readings_by : (ℕ → PairReading) → ℕ → List PairReading
+readings_by one n = filled 16 no_pair_reading (list_in one n 0)
+
 abbrev pub pair_readings : Mechanism → Pose → List (List ℕ) → List (List Float) → ℕ → List PairReading
-pair_readings m q places values n = filled 16 no_pair_reading (list_in (pair_reading m q places values n) m.pairs.count 0)
+pair_readings m q places values n = readings_by (pair_reading m q places values n) m.pairs.count
 
 abbrev pub read_if : Checked → Mechanism → Pose → List Row → Result Reading Problem
 read_if (Ok tt) m q rows = Ok (record {
@@ -47,3 +51,7 @@ read_if (Err p) m q rows = Err p
 
 unfoldable pub reading_of : Mechanism → Pose → Float → (places values grad slip : ℕ) → Result Reading Problem
 reading_of m q margin places values grad slip = read_if (rows_checked m q places values grad slip) m q (rows_of m q margin)
+
+-- the answer of a call that was lent these
+abbrev pub reading_asked : Mechanism → Pose → Float → RowLists → Result Reading Problem
+reading_asked m q margin l = reading_of m q margin (length l.places) (length l.values) (length l.grad) (length l.slip)

@@ -1,17 +1,13 @@
 // The whole reading of a description at a pose, after one check: its rows, and of every pair the overlaps and the bearing.
 #![tactic(auto)]
 
-ghost use Rattle.std.specs.Prelude.{◌≡◌, true, map, ◌≤◌, length};
-ghost use Rattle.std.proofs.lemmas.List.Edits.{sets};
-ghost use Rattle.mechanism.specs.Check.{check_of, pair_drawn};
-ghost use Rattle.mechanism.specs.Rows.{place_row, value_row, pair_in, gap_in};
-ghost use Rattle.sides.specs.Contacts.{pair_features};
-ghost use Rattle.overlap.specs.Overlap.{pair_overlap};
-ghost use Rattle.faces.specs.Faces.{sides_overlap};
-ghost use Rattle.shown_rows.specs.Rows.{rows_of, grads_of, slips_of, rows_checked, if_accepted};
-ghost use Rattle.governing.specs.Governing.{governing_of, records_in};
-ghost use Rattle.bearings.specs.Bearing.{governed_bearing, row_at};
-ghost use Rattle.reading.specs.Reading.{pair_readings, no_pair_reading, reading_of};
+ghost use Rattle.std.specs.Prelude.{◌≡◌, ℕ, ◌<◌, ◌≤◌, length};
+ghost use Rattle.mechanism.specs.Check.{check_of};
+ghost use Rattle.mechanism.specs.Rows.{lists_of};
+ghost use Rattle.shown_rows.specs.Rows.{rows_asked, shown_lists, rows_over};
+ghost use Rattle.governing.specs.Governing.{records_in};
+ghost use Rattle.reading.specs.declared.PairReading.{PairReading};
+ghost use Rattle.reading.specs.Reading.{pair_reading, pair_readings, readings_by, no_pair_reading, reading_asked};
 
 pub mod prepared;
 
@@ -19,13 +15,12 @@ use bearings::governed;
 use bodies::Problem;
 use bodies::pose::Pose;
 use faces::sides_overlap;
+use mechanism::Mechanism;
 use mechanism::bearing::Bearing;
-use mechanism::pair::ContactPair;
-use mechanism::rows::{Place, Value};
-use mechanism::{Mechanism, Outlines, Pairs, Parts};
+use mechanism::rows::{LentRows, ReadRows};
 use overlap::pair_overlap_at;
 use shown_rows::rows_in_numbers;
-use sides::contacts::{PairFeatures, pair_features_at};
+use sides::contacts::pair_features_at;
 
 // What is read of one pair beside its rows.
 #[derive(Clone, Copy)]
@@ -53,70 +48,58 @@ fn no_pair() -> PairReading
     }
 }
 
-// One pair, number i, by the first n rows.
-fn read_pair(
-    ps: Parts,
-    o: Outlines,
-    q: Pose,
-    p: ContactPair,
-    i: usize,
-    places: &[Place],
-    values: &[Value],
-    n: usize,
-) -> PairReading
-    requires { pair_drawn ps p ≡ true }
-    ensures { result ≡ record { overlap = pair_overlap ps o q p; face_overlap = sides_overlap (pair_features ps o p) q; bearing = governed_bearing (pair_features ps o p) q (row_at places.now values.now) (governing_of (pair_in places.now) (gap_in values.now) (records_in n (length places.now) (length values.now)) i) } }
+// Pair i of an accepted description by the first n rows.
+fn read_pair(m: &Mechanism, q: Pose, rows: &ReadRows, i: usize) -> PairReading
+    requires { (check_of m.now ≡ Ok tt) × (i < m.now.pairs.count) }
+    ensures { result ≡ pair_reading m.now q rows.now.places.now rows.now.values.now (records_in rows.now.count (length rows.now.places.now) (length rows.now.values.now)) i }
 {
+    let ps = m.parts;
+    let o = m.outlines;
+    let p = m.pairs.pair[i];
     let f = pair_features_at(ps, o, p);
     PairReading {
         overlap: pair_overlap_at(ps, o, q, p),
         face_overlap: sides_overlap(f, q),
-        bearing: governed(f, q, places, values, n, i),
+        bearing: governed(f, q, rows, i),
     }
 }
 
-// Every pair of an accepted description by the n rows that are there.
-fn read_pairs(m: Mechanism, q: Pose, places: &[Place], values: &[Value], n: usize) -> Reading
-    requires { (check_of m ≡ Ok tt) × (n ≤ length places.now) × (n ≤ length values.now) }
-    ensures { result ≡ record { count = n; pairs = m.pairs.count; pair = pair_readings m q places.now values.now n } }
+// Every pair, one by one, by n rows.
+fn read_pairs<F: Fn(usize) -> PairReading>(pairs: usize, n: usize, read_pair: F) -> Reading
+    requires few { pairs ≤ 16 }
+    requires one { (i : ℕ) → i < pairs → F.pre read_pair i }
+    ensures { (one : ℕ → PairReading) → ((i : ℕ) (r : PairReading) → i < pairs → F.post read_pair i r → r ≡ one i) → result ≡ record { count = n; pairs = pairs; pair = readings_by one pairs } }
 {
     let mut pair = [no_pair(); 16];
-    for i in 0..m.pairs.count {
-        pair[i] = read_pair(
-            m.parts,
-            m.outlines,
-            q,
-            m.pairs.pair[i],
-            i,
-            places,
-            values,
-            n,
-        );
+    for i in 0..pairs {
+        pair[i] = read_pair(i);
     }
     Reading {
         count: n,
-        pairs: m.pairs.count,
+        pairs,
         pair,
     }
 }
 
+// Every pair of an accepted description by the n rows that are there.
+fn read_by(m: &Mechanism, q: Pose, rows: &LentRows, n: usize) -> Reading
+    requires { (check_of m.now ≡ Ok tt) × (n ≤ length (lists_of rows.now).places) × (n ≤ length (lists_of rows.now).values) }
+    ensures { result ≡ record { count = n; pairs = m.now.pairs.count; pair = pair_readings m.now q (lists_of rows.now).places (lists_of rows.now).values n } }
+{
+    let read = ReadRows {
+        places: rows.places,
+        values: rows.values,
+        count: n,
+    };
+    read_pairs(m.pairs.count, n, |i| read_pair(m, q, &read, i))
+}
+
 // Writes the rows of every pair whose gap is not above the margin, with their gradients and slips, as `rows_in_numbers` does, and reads the overlaps and the bearing of every pair.
 #[tactic(auto, unfolding(crate::specs::Reading::reading_of))]
-pub fn read(
-    m: Mechanism,
-    q: Pose,
-    margin: f64,
-    places: &mut [Place],
-    values: &mut [Value],
-    grad: &mut [f64],
-    slip: &mut [f64],
-) -> Result<Reading, Problem>
-    ensures value { result ≡ reading_of m q margin (length places.old) (length values.old) (length grad.old) (length slip.old) }
-    ensures places_after { places.new ≡ if_accepted (rows_checked m q (length places.old) (length values.old) (length grad.old) (length slip.old)) (sets places.old 0 (map place_row (rows_of m q margin))) places.old }
-    ensures values_after { values.new ≡ if_accepted (rows_checked m q (length places.old) (length values.old) (length grad.old) (length slip.old)) (sets values.old 0 (map value_row (rows_of m q margin))) values.old }
-    ensures grad_after { grad.new ≡ if_accepted (rows_checked m q (length places.old) (length values.old) (length grad.old) (length slip.old)) (sets grad.old 0 (grads_of m q margin)) grad.old }
-    ensures slip_after { slip.new ≡ if_accepted (rows_checked m q (length places.old) (length values.old) (length grad.old) (length slip.old)) (sets slip.old 0 (slips_of m q margin)) slip.old }
+pub fn read(m: Mechanism, q: Pose, margin: f64, rows: &mut LentRows) -> Result<Reading, Problem>
+    ensures value { result ≡ reading_asked m q margin (lists_of rows.old) }
+    ensures after { lists_of rows.new ≡ rows_over (rows_asked m q (lists_of rows.old)) (shown_lists m q margin) (lists_of rows.old) }
 {
-    let n = rows_in_numbers(m, q, margin, places, values, grad, slip)?;
-    Ok(read_pairs(m, q, places, values, n))
+    let n = rows_in_numbers(m, q, margin, rows)?;
+    Ok(read_by(&m, q, rows, n))
 }

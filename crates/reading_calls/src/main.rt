@@ -12,9 +12,8 @@ use governing::RowEntries;
 use ieee::num::plain_zero;
 use mechanism::Mechanism;
 use mechanism::bearing::{Bearing, HowItBears};
-use mechanism::rows::{Place, Value, row_from};
-use reading::PairReading;
-use sheet::Sheet;
+use mechanism::rows::{Place, ReadRows, Row, RowArrays, Value};
+use reading::{PairReading, Reading};
 use std::io;
 use std::io::{BufWriter, Write};
 
@@ -34,18 +33,18 @@ fn point<W: Write>(out: &mut W, p: Point) -> io::Result<()> {
     float(out, p.y)
 }
 
-fn letter(h: HowItBears) -> char {
+fn print_how<W: Write>(out: &mut W, h: HowItBears) -> io::Result<()> {
     match h {
-        HowItBears::Flat => 'F',
-        HowItBears::StopEdge => 'E',
-        HowItBears::KeyCorner => 'C',
+        HowItBears::Flat => write!(out, "F,"),
+        HowItBears::StopEdge => write!(out, "E,"),
+        HowItBears::KeyCorner => write!(out, "C,"),
     }
 }
 
 fn print_bearing<W: Write>(out: &mut W, b: Option<Bearing>) -> io::Result<()> {
     match b {
         Some(b) => {
-            write!(out, "{},", letter(b.how))?;
+            print_how(out, b.how)?;
             float(out, b.gap)?;
             point(out, b.point)?;
             float_if_any(out, b.slope)
@@ -58,7 +57,7 @@ fn print_row<W: Write>(out: &mut W, place: Place, value: Value) -> io::Result<()
     for n in &place {
         write!(out, "{n},")?;
     }
-    let r = row_from(place, value);
+    let r = Row::from((place, value));
     float(out, r.gap)?;
     point(out, r.normal.vector())?;
     point(out, r.point)?;
@@ -83,21 +82,18 @@ fn print_entries<W: Write>(out: &mut W, a: Result<RowEntries, Problem>) -> io::R
 #[derive(Drop)]
 struct Rows {
     n: usize,
-    places: [Place; 256],
-    values: [Value; 256],
-    grad: [f64; 4096],
-    slip: [f64; 4096],
+    arrays: RowArrays<256, 4096>,
 }
 
 fn print_columns<W: Write>(out: &mut W, r: &Rows, coords: usize, i: usize) -> io::Result<()> {
-    print_entries(out, governing::row_entries(&r.grad, coords, r.n, i))?;
-    print_entries(out, governing::row_entries(&r.slip, coords, r.n, i))?;
+    print_entries(out, governing::row_entries(&r.arrays.grad, coords, r.n, i))?;
+    print_entries(out, governing::row_entries(&r.arrays.slip, coords, r.n, i))?;
     writeln!(out)
 }
 
 fn print_rows<W: Write>(out: &mut W, r: &Rows, coords: usize) -> io::Result<()> {
     for i in 0..r.n.min(256) {
-        print_row(out, r.places[i], r.values[i])?;
+        print_row(out, r.arrays.places[i], r.arrays.values[i])?;
         print_columns(out, r, coords, i)?;
     }
     write!(out, "past,")?;
@@ -119,12 +115,17 @@ fn print_governed<W: Write>(
     r: &Rows,
     pair: usize,
 ) -> io::Result<()> {
-    match governing::governing_in(&r.places, &r.values, r.n, pair) {
+    let rows = ReadRows {
+        places: &r.arrays.places,
+        values: &r.arrays.values,
+        count: r.n,
+    };
+    match governing::governing_in(&rows, pair) {
         Some(i) => write!(out, "{i},")?,
         None => write!(out, "N,")?,
     }
-    float_if_any(out, governing::gap_in(&r.places, &r.values, r.n, pair))?;
-    match row_records::bearing_in(m, q, &r.places, &r.values, r.n, pair) {
+    float_if_any(out, governing::gap_in(&rows, pair))?;
+    match row_records::bearing_in(m, q, &rows, pair) {
         Ok(b) => print_bearing(out, b),
         Err(p) => write!(out, "{p}"),
     }
@@ -141,63 +142,60 @@ fn print_all_governed<W: Write>(out: &mut W, m: Mechanism, q: Pose, r: &Rows) ->
 // The first n rows in the opposite order.
 fn turn_round(r: &mut Rows) {
     let n = r.n.min(256);
-    r.places[..n].reverse();
-    r.values[..n].reverse();
+    r.arrays.places[..n].reverse();
+    r.arrays.values[..n].reverse();
 }
 
-fn print_reading<W: Write>(out: &mut W, m: Mechanism, q: Pose, margin: f64) -> io::Result<()> {
-    let mut places = [[0; 7]; 256];
-    let mut values = [[0.0; 5]; 256];
-    let mut grad = [0.0; 4096];
-    let mut slip = [0.0; 4096];
-    match reading::read(m, q, margin, &mut places, &mut values, &mut grad, &mut slip) {
-        Ok(r) => {
-            let mut rows = Rows {
-                n: r.count,
-                places,
-                values,
-                grad,
-                slip,
-            };
-            writeln!(out, "accepted,{},", r.count)?;
-            print_rows(out, &rows, m.bodies.coords)?;
-            for p in r.pair.iter().take(r.pairs) {
-                print_pair(out, *p)?;
-            }
-            print_all_governed(out, m, q, &rows)?;
-            turn_round(&mut rows);
-            print_all_governed(out, m, q, &rows)?;
-            rows.values[0][0] = 0.0 / 0.0;
-            print_all_governed(out, m, q, &rows)
-        }
-        Err(p) => writeln!(out, "{p}"),
+// A description at a pose, and what was read of it.
+#[derive(Drop)]
+struct Whole {
+    mechanism: Mechanism,
+    pose: Pose,
+    reading: Reading,
+    rows: Rows,
+}
+
+fn print_reading<W: Write>(out: &mut W, w: Whole) -> io::Result<()> {
+    let m = w.mechanism;
+    let mut rows = w.rows;
+    writeln!(out, "accepted,{},", rows.n)?;
+    print_rows(out, &rows, m.bodies.coords)?;
+    for p in w.reading.pair.iter().take(w.reading.pairs) {
+        print_pair(out, *p)?;
     }
+    print_all_governed(out, m, w.pose, &rows)?;
+    turn_round(&mut rows);
+    print_all_governed(out, m, w.pose, &rows)?;
+    rows.arrays.values[0][0] = 0.0 / 0.0;
+    print_all_governed(out, m, w.pose, &rows)
 }
 
-// What a text says, and the pose that it gives.
-fn posed(text: &[u8]) -> Result<(Sheet, Pose), Problem> {
+// The reading of what a text says, at the pose that it gives.
+fn read_text(text: &[u8]) -> Result<Whole, Problem> {
     let s = sheet::read(text)?;
-    Ok((s, sheet::posed::posed(s.mechanism, s.entries)?))
+    let m = s.mechanism;
+    let q = sheet::posed::posed(m, s.entries)?;
+    let mut arrays = RowArrays::<256, 4096>::blank();
+    let r = reading::read(m, q, s.margin, &mut arrays.lent())?;
+    Ok(Whole {
+        mechanism: m,
+        pose: q,
+        reading: r,
+        rows: Rows { n: r.count, arrays },
+    })
 }
 
 fn answer<W: Write>(out: &mut W, text: &[u8]) -> io::Result<()> {
-    match posed(text) {
-        Ok((s, q)) => print_reading(out, s.mechanism, q, s.margin),
+    match read_text(text) {
+        Ok(w) => print_reading(out, w),
         Err(p) => writeln!(out, "{p}"),
     }
 }
 
 fn main(rt: HostRuntime) -> io::Result<()> {
-    let mut input = rt.stdin();
-    let mut out = BufWriter::new(rt.alloc(), rt.stdout())?;
-    let mut buf = [0u8; 65537];
-    for _ in 0..1000000 {
-        let Some(n) = streams::next_text(&mut input, &mut buf)? else {
-            break;
-        };
-        if let Some(text) = buf.get(..n) {
-            answer(&mut out, text)?;
-        }
-    }
-    out.flush()
+    streams::for_each_text(
+        &mut rt.stdin(),
+        &mut BufWriter::new(rt.alloc(), rt.stdout())?,
+        answer,
+    )
 }

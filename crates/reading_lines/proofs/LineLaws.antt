@@ -57,7 +57,8 @@ pub fields-more : (d : Float) {l : List ℕ} {at : ℕ} {xs : List Float} {out m
 fields-more d {l} {at} {xs} {i} f h w = record {
   bound = omega arith;
   room = room-rest _ _ (room_as (next xs i d h) f.room) w;
-  rest = subst₂ (λ (o : List ℕ) (j : ℕ). Writing l at (float_fields xs) o j (float_fields (drop (i + 1) xs))) (sym w.there) (sym w.behind) (appends (float_field (get_or xs i d)) (next xs i d h) f.rest);
+  rest = subst₂ (λ (o : List ℕ) (j : ℕ). Writing l at (float_fields xs) o j (float_fields (drop (i + 1) xs))) (sym w.there) (sym w.behind)
+      (appends (float_field (get_or xs i d)) (next xs i d h) f.rest);
 }
 
 none : (xs : List Float) (i : ℕ) → length xs ≤ i → float_fields (drop i xs) ≡ []

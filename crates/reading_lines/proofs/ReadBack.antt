@@ -39,7 +39,8 @@ module _ (base : ℕ) (some : 0 < base) where
   good_last good is zero v = refl
   good_last good is (suc n) v = all-last good (last_digits base n (v / base)) (digit_of (v % base)) (good_last good is n (v / base)) (is (v % base) (mod-lt v some))
 
-  pub read_last : (value : ℕ → ℕ) → ((d : ℕ) → d < base → value (digit_of d) ≡ d) → (n v : ℕ) → v < base ^ n → fold_of (λ (a b : ℕ). a * base + value b) 0 (last_digits base n v) ≡ v
+  pub read_last : (value : ℕ → ℕ) → ((d : ℕ) → d < base → value (digit_of d) ≡ d) → (n v : ℕ) → v < base ^ n
+      → fold_of (λ (a b : ℕ). a * base + value b) 0 (last_digits base n v) ≡ v
   unfolding last_digits fold_of
   read_last value back zero v h = let l : v < 1 = subst (λ (k : ℕ). v < k) (pow-zero base) h in omega (arith, l)
   read_last value back (suc n) v h =
@@ -67,7 +68,8 @@ hex_is d h = go (ltb d 10) refl
     go true e = or_yes _ (digit-is d (ltb-true d 10 e))
     go false e =
         let l : 10 ≤ d = ltb-false d 10 e in
-        let a : (leb 97 (digit_of d) && leb (digit_of d) 102) ≡ true = ap (λ (b : ℕ). leb 97 b && leb b 102) (digit-high d l) ∙ and_yes _ (le-leb 97 (97 + (d - 10)) (omega arith)) ∙ le-leb (97 + (d - 10)) 102 (omega arith) in
+        let a : (leb 97 (digit_of d) && leb (digit_of d) 102) ≡ true =
+        ap (λ (b : ℕ). leb 97 b && leb b 102) (digit-high d l) ∙ and_yes _ (le-leb 97 (97 + (d - 10)) (omega arith)) ∙ le-leb (97 + (d - 10)) 102 (omega arith) in
         or_no _ (letter_no_digit d l) ∙ a
 
 hex_back : (d : ℕ) → d < 16 → hex_of (digit_of d) ≡ d

@@ -2,10 +2,9 @@
 use Prim.Native.Nat.{ℕ, suc, ◌+◌, ◌*◌, ◌-◌, ◌<◌, ◌≤◌}
 use native.Mathlib.Omega.{arith}
 use native.Mathlib.Nat.{suc-mul, mul-le-mul_right}
-use mathlib.Core.Path.{◌≡◌, refl, sym, ap, subst, subst₂, ◌∙◌}
-use mathlib.Core.List.{List, [], ◌++◌, map}
+use mathlib.Core.Path.{◌≡◌, refl, sym, ap, ap₂, subst₂, ◌∙◌}
+use mathlib.Core.List.{List, [], ◌++◌}
 use lib.ListN.{length, get_or, take, drop, replicate, length-append}
-use lib.Seq.{sets}
 use lib.Ieee.{Float}
 use mir.Val.{Val}
 use denote.Laws.{Is}
@@ -14,14 +13,14 @@ use Rattle.laws.proofs.Lists.{get_d_any}
 use Rattle.laws.proofs.Loops.{join_turn, join_none, join_done}
 use Rattle.laws.proofs.Writing.{starts, goes_on, appends, ends, ends-count}
 use Rattle.ieee.specs.Consts.{zero_f}
-use Rattle.mechanism.specs.Rows.{place_row, value_row}
+use Rattle.mechanism.specs.Rows.{RowLists}
 use Rattle.mechanism.specs.declared.Mechanism.{Mechanism}
 use Rattle.bodies.specs.declared.Problem.{Problem}
 use Rattle.bodies.specs.declared.pose.Pose.{Pose}
 use Rattle.mechanism.specs.declared.rows.Row.{Row}
 use Rattle.bodies.proofs.Known.{array_length}
-use Rattle.shown_rows.specs.Rows.{rows_of, grads_of, slips_of, rows_checked, if_accepted}
-use Rattle.reading.specs.Reading.{no_pair_reading, reading_of}
+use Rattle.shown_rows.specs.Rows.{rows_of, rows_checked, rows_asked, shown_lists, rows_over}
+use Rattle.reading.specs.Reading.{no_pair_reading, reading_of, reading_asked}
 use Rattle.reading.specs.Reading as T
 use Rattle.reading.specs.declared.PairReading.{PairReading}
 use Rattle.reading.specs.declared.Reading.{Reading}
@@ -33,7 +32,7 @@ use Rattle.reading_lines.specs.Readings as L
 use Rattle.reading_lines.specs.Readings.{other_lines, reading_at, all_lines, refusal, read_lines, Held, all_lines_in, longest}
 use Rattle.reading_lines.proofs.LineLaws.{room-first, room-rest, room_as}
 use Rattle.reading_lines.proofs.WholeSizes.{digits-few, all-fits, accepted-small}
-use Rattle.reading_lines.proofs.WholeRead.{read_by, all_same, all_held}
+use Rattle.reading_lines.proofs.WholeRead.{Lengths, read_by, all_same, all_held}
 use Rattle.std.proofs.Common.{Ok, Err}
 use Rattle.bodies.specs.Check.{Checked}
 
@@ -85,11 +84,12 @@ module _ {f : ℕ → List ℕ} {n : ℕ} {l : List ℕ} {at : ℕ} {out : List 
   parts-end h = record { behind = ends-count (join_done f n i h) p.rest; there = ends (join_done f n i h) p.rest }
 
 -- ---- the columns of row j end within those of n rows, and few are there
-pub columns_end : (j n c : ℕ) → j < n → j * c + c ≤ n * c
-columns_end j n c h = let e : suc j * c ≤ n * c = mul-le-mul_right c h in omega (arith, suc-mul j c)
-
-pub columns_few : (n c : ℕ) → n ≤ 256 → c ≤ 16 → n * c ≤ 4096
-columns_few n c h k = let e : n * c ≤ 256 * c = mul-le-mul_right c h in omega arith
+pub columns_within : {coords n j : ℕ} {l : RowLists} → Held coords n l → j < n → (j * coords + coords ≤ length l.grad) × (j * coords + coords ≤ length l.slip) × (j * coords + coords ≤ 4096)
+columns_within {coords} {n} {j} h k =
+    let e : suc j * coords ≤ n * coords = mul-le-mul_right coords k in
+    let f : n * coords ≤ 256 * coords = mul-le-mul_right coords h.many in
+    let m = suc-mul j coords in
+    (omega (arith, m, e, h.grads), omega (arith, m, e, h.slips), omega (arith, m, e, f, h.few))
 
 -- the part of a slice from f up to f + c
 pub columns_part : (l : List Float) (f c : ℕ) → take (f + c - f) (drop f l) ≡ take c (drop f l)
@@ -105,14 +105,11 @@ other_same r i d l h k = ap (other_lines i) (get_d_any r.pair i no_pair_reading 
 
 -- ---- what is read, refused and accepted
 -- the lent arrays as they are made
-abbrev pub no_places : List (List ℕ)
-no_places = replicate 256 (replicate 7 0)
+abbrev pub blank_rows : RowLists
+blank_rows = record { places = replicate 256 (replicate 7 0); values = replicate 256 (replicate 5 zero_f); grad = replicate 4096 zero_f; slip = replicate 4096 zero_f }
 
-abbrev pub no_values : List (List Float)
-no_values = replicate 256 (replicate 5 zero_f)
-
-abbrev pub no_columns : List Float
-no_columns = replicate 4096 zero_f
+pub blank_long : Lengths blank_rows
+blank_long = record { places = refl; values = refl; grad = refl; slip = refl }
 
 module _ (m : Mechanism) (q : Pose) (rows : List Row) where
   refused-by : (c : Checked) (p : Problem) → Err p ≡ T.read_if c m q rows → c ≡ Err p
@@ -123,67 +120,42 @@ module _ (m : Mechanism) (q : Pose) (rows : List Row) where
   accepted-by (Ok tt) r e = (refl, cc)
   accepted-by (Err x) r e = cc
 
-module _ (m : Mechanism) (q : Pose) (margin : Float) (places : List (List ℕ)) (values : List (List Float)) (grad slip : List Float)
-    (lp : length places ≡ 256) (lv : length values ≡ 256) (lg : length grad ≡ 4096) (ls : length slip ≡ 4096) where
+module _ (m : Mechanism) (q : Pose) (margin : Float) (b : RowLists) (long : Lengths b) where
   abbrev checked : Checked
-  checked = rows_checked m q (length places) (length values) (length grad) (length slip)
+  checked = rows_asked m q b
 
-  four : {A : Type 0} (f : ℕ → ℕ → ℕ → ℕ → A) → f (length places) (length values) (length grad) (length slip) ≡ f 256 256 4096 4096
-  four f =
-      ap (λ (n : ℕ). f n (length values) (length grad) (length slip)) lp
-      ∙ ap (λ (n : ℕ). f 256 n (length grad) (length slip)) lv
-      ∙ ap (λ (n : ℕ). f 256 256 n (length slip)) lg
-      ∙ ap (f 256 256 4096) ls
+  four : {A : Type 0} (f : ℕ → ℕ → ℕ → ℕ → A) → f (length b.places) (length b.values) (length b.grad) (length b.slip) ≡ f 256 256 4096 4096
+  four f = ap₂ (λ (n k : ℕ). f n k (length b.grad) (length b.slip)) long.places long.values ∙ ap₂ (f 256 256) long.grad long.slip
 
   says : {c : Checked} → checked ≡ c → rows_checked m q 256 256 4096 4096 ≡ c
   says h = sym (four (rows_checked m q)) ∙ h
 
-  pub read_refused : {p : Problem} → Err p ≡ reading_of m q margin (length places) (length values) (length grad) (length slip) → read_lines m q margin ≡ refusal p
+  pub read_refused : {p : Problem} → Err p ≡ reading_asked m q margin b → read_lines m q margin ≡ refusal p
   unfolding reading_of
   read_refused {p} e = ap (λ (c : Checked). L.read_if c m q margin) (says (refused-by m q (rows_of m q margin) checked p e))
 
-  module _ {r : Reading} (e : Ok r ≡ reading_of m q margin (length places) (length values) (length grad) (length slip))
-      {ps : List (List ℕ)} {vs : List (List Float)} {gs ss : List Float}
-      (ep : ps ≡ if_accepted checked (sets places 0 (map place_row (rows_of m q margin))) places)
-      (ev : vs ≡ if_accepted checked (sets values 0 (map value_row (rows_of m q margin))) values)
-      (eg : gs ≡ if_accepted checked (sets grad 0 (grads_of m q margin)) grad) (es : ss ≡ if_accepted checked (sets slip 0 (slips_of m q margin)) slip) where
+  module _ {r : Reading} (e : Ok r ≡ reading_asked m q margin b) {l : RowLists} (after : l ≡ rows_over checked (shown_lists m q margin) b) where
     told : (checked ≡ Ok tt) × (r ≡ read_by m q (rows_of m q margin))
     unfolding reading_of
     told = accepted-by m q (rows_of m q margin) checked r e
 
-    kept : {A : Type 0} (new old : List A) {l : List A} → l ≡ if_accepted checked new old → l ≡ new
-    kept new old k = k ∙ ap (λ (c : Checked). if_accepted c new old) told.0
+    -- what is there is what was written
+    written : l ≡ rows_over (Ok tt) (shown_lists m q margin) b
+    written = after ∙ ap (λ (c : Checked). rows_over c (shown_lists m q margin) b) told.0
 
-    -- what holds of the rows as they are written, and of what is read by them, holds of what is there
-    five : (F : List (List ℕ) → List (List Float) → List Float → List Float → Reading → Type 0)
-        → F (sets places 0 (map place_row (rows_of m q margin))) (sets values 0 (map value_row (rows_of m q margin)))
-        (sets grad 0 (grads_of m q margin)) (sets slip 0 (slips_of m q margin))
-        (read_by m q (rows_of m q margin))
-        → F ps vs gs ss r
-    five F x =
-        let rows = rows_of m q margin in
-        let g = sets grad 0 (grads_of m q margin) in
-        let s = sets slip 0 (slips_of m q margin) in
-        let t = read_by m q rows in
-        subst (λ (u : Reading). F ps vs gs ss u) (sym told.1)
-        (subst₂ (λ (a b : List Float). F ps vs a b t) (sym (kept g grad eg)) (sym (kept s slip es))
-        (subst₂ (λ (a : List (List ℕ)) (b : List (List Float)). F a b g s t)
-        (sym (kept (sets places 0 (map place_row rows)) places ep)) (sym (kept (sets values 0 (map value_row rows)) values ev)) x))
-
-    there : Held m.bodies.coords r.count ps vs gs ss × (r.pairs ≤ 16) × (all_lines_in m.bodies.coords ps vs gs ss r ≡ all_lines m q margin)
+    there : Held m.bodies.coords r.count l × (r.pairs ≤ 16) × (all_lines_in m.bodies.coords l r ≡ all_lines m q margin)
     there =
         let k = says told.0 in
-        five (λ x y a b t. Held m.bodies.coords t.count x y a b × (t.pairs ≤ 16) × (all_lines_in m.bodies.coords x y a b t ≡ all_lines m q margin))
-        (all_held m q margin places values grad slip lp lv lg ls k, (accepted-small m q margin k).pairs, all_same m q margin places values grad slip lp lv lg ls k)
+        subst₂ (λ (x : RowLists) (t : Reading). Held m.bodies.coords t.count x × (t.pairs ≤ 16) × (all_lines_in m.bodies.coords x t ≡ all_lines m q margin))
+        (sym written) (sym told.1)
+        (all_held m q margin k b long, (accepted-small m q margin k).pairs, all_same m q margin k b long)
 
     -- what `all_lines` asks for
-    pub read_ready : (out : List ℕ) → longest ≤ length out
-        → Held m.bodies.coords r.count ps vs gs ss × (r.pairs ≤ 16) × Room out 0 (all_lines_in m.bodies.coords ps vs gs ss r)
-    read_ready out l =
-        let k = says told.0 in
+    pub read_ready : (out : List ℕ) → longest ≤ length out → Held m.bodies.coords r.count l × (r.pairs ≤ 16) × Room out 0 (all_lines_in m.bodies.coords l r)
+    read_ready out h =
         let t = there in
         let n = ap length t.2 in
-        (t.0, t.1, record { inside = omega (arith, n, all-fits m q margin k) })
+        (t.0, t.1, record { inside = omega (arith, n, all-fits m q margin (says told.0)) })
 
-    pub read_accepted : read_lines m q margin ≡ all_lines_in m.bodies.coords ps vs gs ss r
+    pub read_accepted : read_lines m q margin ≡ all_lines_in m.bodies.coords l r
     read_accepted = ap (λ (c : Checked). L.read_if c m q margin) (says told.0) ∙ sym there.2

@@ -12,12 +12,12 @@ use lib.Ieee.{Float, nan}
 use borrow.Author.Tests.{eqb-true}
 use Rattle.laws.specs.Lists.{flat, list_in}
 use Rattle.laws.specs.Loops.{join_in}
-use Rattle.mechanism.specs.Rows.{place_row, value_row, pair_in}
+use Rattle.mechanism.specs.Rows.{RowLists, place_row, value_row, pair_in}
 use Rattle.mechanism.specs.declared.Mechanism.{Mechanism}
 use Rattle.mechanism.specs.declared.features.Piece.TheVariants.{Center}
 use Rattle.bodies.specs.declared.pose.Pose.{Pose}
 use Rattle.mechanism.specs.declared.rows.Row.{Row}
-use Rattle.shown_rows.specs.Rows.{rows_of_pair, rows_of, grads_of, slips_of, rows_checked}
+use Rattle.shown_rows.specs.Rows.{rows_of_pair, rows_of, grads_of, slips_of, rows_checked, shown_lists, rows_over}
 use Rattle.shown_rows.proofs.AllPairs.{flat-long}
 use Rattle.bearings.specs.Bearing.{row_at}
 use Rattle.reading.specs.Reading.{pair_readings}
@@ -39,7 +39,8 @@ join_numbers f g zero j e = refl
 join_numbers f g (suc k) j e = ap₂ (λ a b. a ++ b) (e j (omega arith)) (join_numbers f g k (suc j) (λ i h. e i (omega (arith, h))))
 
 -- over the elements of a list
-join_list : {A B : Type 0} (f : ℕ → List B) (g : A → List B) (d : A) (l : List A) (j : ℕ) → ((i : ℕ) → i < length l → f (j + i) ≡ g (get_or l i d)) → join_in f (length l) j ≡ flat g l
+join_list : {A B : Type 0} (f : ℕ → List B) (g : A → List B) (d : A) (l : List A) (j : ℕ)
+    → ((i : ℕ) → i < length l → f (j + i) ≡ g (get_or l i d)) → join_in f (length l) j ≡ flat g l
 unfolding join_in flat
 join_list f g d [] j e = refl
 join_list f g d (x ∷ l) j e =
@@ -98,6 +99,13 @@ named m q i r = go (eqb r.pair i) refl
     go true e = ap (λ (k : ℕ). row_lines m q k r) (eqb-true r.pair i e)
     go false e = refl
 
+-- arrays for 256 rows
+pub record Lengths (b : RowLists) : Type 0 where
+  pub places : length b.places ≡ 256
+  pub values : length b.values ≡ 256
+  pub grad : length b.grad ≡ 4096
+  pub slip : length b.slip ≡ 4096
+
 -- the reading of rows, where it is not refused
 abbrev pub read_by : Mechanism → Pose → List Row → Reading
 read_by m q rows = record {
@@ -129,81 +137,59 @@ module _ (m : Mechanism) (q : Pose) (margin : Float) (e : rows_checked m q 256 2
   read_there : (i : ℕ) → i < m.pairs.count → reading_at (read_by m q rows) i ≡ read_of m q margin i
   read_there i h = pair-there m q (map place_row rows) (map value_row rows) (length rows) i small.pairs h
 
-  module _ (places : List (List ℕ)) (values : List (List Float)) (grad slip : List Float)
-      (lp : length places ≡ 256) (lv : length values ≡ 256) (lg : length grad ≡ 4096) (ls : length slip ≡ 4096) where
-    abbrev ps : List (List ℕ)
-    ps = sets places 0 (map place_row rows)
+  module _ (b : RowLists) (long : Lengths b) where
+    abbrev l : RowLists
+    l = rows_over (Ok tt) (shown_lists m q margin) b
 
-    abbrev vs : List (List Float)
-    vs = sets values 0 (map value_row rows)
+    row-there : (j : ℕ) → j < length rows → row_at l.places l.values j ≡ get_or rows j none
+    row-there j h = read_back rows b.places b.values j none (omega (arith, small.rows, long.places)) (omega (arith, small.rows, long.values)) h
 
-    abbrev gs : List Float
-    gs = sets grad 0 (grads_of m q margin)
-
-    abbrev ss : List Float
-    ss = sets slip 0 (slips_of m q margin)
-
-    row-there : (j : ℕ) → j < length rows → row_at ps vs j ≡ get_or rows j none
-    row-there j h = read_back rows places values j none (omega (arith, small.rows, lp)) (omega (arith, small.rows, lv)) h
-
-    grad_there : (j : ℕ) → j < length rows → take coords (drop (j * coords) gs) ≡ grad_of_row m q (get_or rows j none)
+    grad_there : (j : ℕ) → j < length rows → take coords (drop (j * coords) l.grad) ≡ grad_of_row m q (get_or rows j none)
     grad_there j h =
-        block_in (grad_of_row m q) coords (grad_long m q) none rows j grad (grads_of m q margin) (all-grads m q margin) (omega (arith, grads-length, columns_fit, lg)) h
+        block_in (grad_of_row m q) coords (grad_long m q) none rows j b.grad (grads_of m q margin) (all-grads m q margin) (omega (arith, grads-length, columns_fit, long.grad)) h
 
-    slip_there : (j : ℕ) → j < length rows → take coords (drop (j * coords) ss) ≡ slip_of_row m q (get_or rows j none)
+    slip_there : (j : ℕ) → j < length rows → take coords (drop (j * coords) l.slip) ≡ slip_of_row m q (get_or rows j none)
     slip_there j h =
-        block_in (slip_of_row m q) coords (slip_long m q) none rows j slip (slips_of m q margin) (all-slips m q margin) (omega (arith, slips-length, columns_fit, ls)) h
+        block_in (slip_of_row m q) coords (slip_long m q) none rows j b.slip (slips_of m q margin) (all-slips m q margin) (omega (arith, slips-length, columns_fit, long.slip)) h
 
-    lines-there : (j : ℕ) → j < length rows → row_lines_in coords ps vs gs ss j ≡ row_lines m q (get_or rows j none).pair (get_or rows j none)
+    lines-there : (j : ℕ) → j < length rows → row_lines_in coords l j ≡ row_lines m q (get_or rows j none).pair (get_or rows j none)
     lines-there j h =
         ap₂ (λ (a b : List ℕ). a ++ b) (ap row_line (row-there j h)) (ap₂ columns_line (grad_there j h) (slip_there j h))
 
     turn-there : (i j : ℕ) → j < length rows
-        → cond (eqb (pair_in ps j) i) (row_lines_in coords ps vs gs ss j) [] ≡ cond (eqb (get_or rows j none).pair i) (row_lines m q i (get_or rows j none)) []
+        → cond (eqb (pair_in l.places j) i) (row_lines_in coords l j) [] ≡ cond (eqb (get_or rows j none).pair i) (row_lines m q i (get_or rows j none)) []
     turn-there i j h =
         ap₂ (λ (k : ℕ) (l : List ℕ). cond (eqb k i) l []) (ap (λ (r : Row). r.pair) (row-there j h)) (lines-there j h)
         ∙ named m q i (get_or rows j none)
 
-    rows-there : (i : ℕ) → i < m.pairs.count → pair_rows_in coords ps vs gs ss (length rows) i ≡ flat (row_lines m q i) (rows_of_pair m q margin i)
+    rows-there : (i : ℕ) → i < m.pairs.count → pair_rows_in coords l (length rows) i ≡ flat (row_lines m q i) (rows_of_pair m q margin i)
     unfolding pair_rows_in
     rows-there i h =
-        join_list (λ j. cond (eqb (pair_in ps j) i) (row_lines_in coords ps vs gs ss j) []) (λ r. cond (eqb r.pair i) (row_lines m q i r) []) none rows 0 turn
+        join_list (λ j. cond (eqb (pair_in l.places j) i) (row_lines_in coords l j) []) (λ r. cond (eqb r.pair i) (row_lines m q i r) []) none rows 0 turn
         ∙ flat-only (λ r. eqb r.pair i) (row_lines m q i) rows
         ∙ ap (flat (row_lines m q i)) (sym (all_named m q margin i h))
       where
         turn : (j : ℕ) → j < length rows
-            → cond (eqb (pair_in ps (0 + j)) i) (row_lines_in coords ps vs gs ss (0 + j)) [] ≡ cond (eqb (get_or rows j none).pair i) (row_lines m q i (get_or rows j none)) []
-        turn j k = ap (λ (n : ℕ). cond (eqb (pair_in ps n) i) (row_lines_in coords ps vs gs ss n) []) (zero-add j) ∙ turn-there i j k
+            → cond (eqb (pair_in l.places (0 + j)) i) (row_lines_in coords l (0 + j)) [] ≡ cond (eqb (get_or rows j none).pair i) (row_lines m q i (get_or rows j none)) []
+        turn j k = ap (λ (n : ℕ). cond (eqb (pair_in l.places n) i) (row_lines_in coords l n) []) (zero-add j) ∙ turn-there i j k
 
-    pairs-there : all_lines_in coords ps vs gs ss (read_by m q rows) ≡ all_lines m q margin
+    -- what is listed from the arrays is the listing of the rows
+    pub all_same : all_lines_in coords l (read_by m q rows) ≡ all_lines m q margin
     unfolding all_lines_in all_lines
-    pairs-there =
-        join_numbers (pair_lines_in coords ps vs gs ss (read_by m q rows)) (pair_lines m q margin) m.pairs.count 0
+    all_same =
+        join_numbers (pair_lines_in coords l (read_by m q rows)) (pair_lines m q margin) m.pairs.count 0
         (λ i h. pair-there i (omega (arith, h)))
       where
-        pair-there : (i : ℕ) → i < m.pairs.count → pair_lines_in coords ps vs gs ss (read_by m q rows) i ≡ pair_lines m q margin i
+        pair-there : (i : ℕ) → i < m.pairs.count → pair_lines_in coords l (read_by m q rows) i ≡ pair_lines m q margin i
         pair-there i h = ap₂ (λ (a b : List ℕ). a ++ b) (rows-there i h) (ap (other_lines i) (read_there i h))
 
--- ---- what is listed from the arrays is the listing of the rows
-pub all_same : (m : Mechanism) (q : Pose) (margin : Float) (places : List (List ℕ)) (values : List (List Float)) (grad slip : List Float)
-    → length places ≡ 256 → length values ≡ 256 → length grad ≡ 4096 → length slip ≡ 4096 → rows_checked m q 256 256 4096 4096 ≡ Ok tt
-    → all_lines_in m.bodies.coords (sets places 0 (map place_row (rows_of m q margin))) (sets values 0 (map value_row (rows_of m q margin)))
-    (sets grad 0 (grads_of m q margin)) (sets slip 0 (slips_of m q margin)) (read_by m q (rows_of m q margin)) ≡ all_lines m q margin
-all_same m q margin places values grad slip lp lv lg ls e = pairs-there m q margin e places values grad slip lp lv lg ls
-
--- ---- what the listing asks of the arrays and of the reading
-pub all_held : (m : Mechanism) (q : Pose) (margin : Float) (places : List (List ℕ)) (values : List (List Float)) (grad slip : List Float)
-    → length places ≡ 256 → length values ≡ 256 → length grad ≡ 4096 → length slip ≡ 4096 → rows_checked m q 256 256 4096 4096 ≡ Ok tt
-    → Held m.bodies.coords (length (rows_of m q margin)) (sets places 0 (map place_row (rows_of m q margin)))
-    (sets values 0 (map value_row (rows_of m q margin))) (sets grad 0 (grads_of m q margin)) (sets slip 0 (slips_of m q margin))
-all_held m q margin places values grad slip lp lv lg ls e =
-    let s = accepted-small m q margin e in
-    let f = columns_fit m q margin e in
-    record {
-      few = s.coords;
-      many = s.rows;
-      placed = omega (arith, s.rows, lp, length-sets places 0 (map place_row (rows_of m q margin)));
-      valued = omega (arith, s.rows, lv, length-sets values 0 (map value_row (rows_of m q margin)));
-      grads = omega (arith, f, lg, length-sets grad 0 (grads_of m q margin));
-      slips = omega (arith, f, ls, length-sets slip 0 (slips_of m q margin));
+    -- what the listing asks of the arrays and of the reading
+    pub all_held : Held coords (length rows) l
+    all_held = record {
+      few = small.coords;
+      many = small.rows;
+      placed = omega (arith, small.rows, long.places, length-sets b.places 0 (map place_row rows));
+      valued = omega (arith, small.rows, long.values, length-sets b.values 0 (map value_row rows));
+      grads = omega (arith, columns_fit, long.grad, length-sets b.grad 0 (grads_of m q margin));
+      slips = omega (arith, columns_fit, long.slip, length-sets b.slip 0 (slips_of m q margin));
     }

@@ -3,7 +3,7 @@ use Rattle.std.specs.Prelude.{ℕ, ◌*◌, ◌≤◌, cond, List, [], ◌++◌,
 use Rattle.laws.specs.Lists.{flat}
 use Rattle.laws.specs.Loops.{join_in}
 use Rattle.bodies.specs.Check.{Checked, number_of, place_of}
-use Rattle.mechanism.specs.Rows.{place_row, value_row, pair_in}
+use Rattle.mechanism.specs.Rows.{RowLists, place_row, value_row, pair_in}
 use Rattle.mechanism.specs.declared.Mechanism.{Mechanism}
 use Rattle.bodies.specs.declared.Problem.{Problem}
 use Rattle.bodies.specs.declared.pose.Pose.{Pose}
@@ -47,31 +47,30 @@ read_lines m q margin = read_if (rows_checked m q 256 256 4096 4096) m q margin
 
 -- ---- the same read from lent arrays
 -- row j and its columns, `coords` numbers each
-abbrev pub row_lines_in : ℕ → List (List ℕ) → List (List Float) → List Float → List Float → ℕ → List ℕ
-row_lines_in coords places values grad slip j =
-    row_line (row_at places values j) ++ columns_line (take coords (drop (j * coords) grad)) (take coords (drop (j * coords) slip))
+abbrev pub row_lines_in : ℕ → RowLists → ℕ → List ℕ
+row_lines_in coords l j = row_line (row_at l.places l.values j) ++ columns_line (take coords (drop (j * coords) l.grad)) (take coords (drop (j * coords) l.slip))
 
 -- those of the n rows that name pair i
-unfoldable pub pair_rows_in : ℕ → List (List ℕ) → List (List Float) → List Float → List Float → ℕ → ℕ → List ℕ
-pair_rows_in coords places values grad slip n i = join_in (λ j. cond (eqb (pair_in places j) i) (row_lines_in coords places values grad slip j) []) n 0
+unfoldable pub pair_rows_in : ℕ → RowLists → ℕ → ℕ → List ℕ
+pair_rows_in coords l n i = join_in (λ j. cond (eqb (pair_in l.places j) i) (row_lines_in coords l j) []) n 0
 
 abbrev pub reading_at : Reading → ℕ → PairReading
 reading_at r i = get_or r.pair i no_pair_reading
 
-abbrev pub pair_lines_in : ℕ → List (List ℕ) → List (List Float) → List Float → List Float → Reading → ℕ → List ℕ
-pair_lines_in coords places values grad slip r i = pair_rows_in coords places values grad slip r.count i ++ other_lines i (reading_at r i)
+abbrev pub pair_lines_in : ℕ → RowLists → Reading → ℕ → List ℕ
+pair_lines_in coords l r i = pair_rows_in coords l r.count i ++ other_lines i (reading_at r i)
 
-unfoldable pub all_lines_in : ℕ → List (List ℕ) → List (List Float) → List Float → List Float → Reading → List ℕ
-all_lines_in coords places values grad slip r = join_in (pair_lines_in coords places values grad slip r) r.pairs 0
+unfoldable pub all_lines_in : ℕ → RowLists → Reading → List ℕ
+all_lines_in coords l r = join_in (pair_lines_in coords l r) r.pairs 0
 
 -- the arrays hold n rows with their columns
-pub record Held (coords n : ℕ) (places : List (List ℕ)) (values : List (List Float)) (grad slip : List Float) : Type 0 where
+pub record Held (coords n : ℕ) (l : RowLists) : Type 0 where
   pub few : coords ≤ 16
   pub many : n ≤ 256
-  pub placed : n ≤ length places
-  pub valued : n ≤ length values
-  pub grads : n * coords ≤ length grad
-  pub slips : n * coords ≤ length slip
+  pub placed : n ≤ length l.places
+  pub valued : n ≤ length l.values
+  pub grads : n * coords ≤ length l.grad
+  pub slips : n * coords ≤ length l.slip
 
 -- ---- no listing is longer: 256 rows of 196 and 546 bytes, 16 pairs of 57 and 93, whole numbers taken to have up to twenty digits
 abbrev pub longest : ℕ

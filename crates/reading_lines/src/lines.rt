@@ -1,5 +1,7 @@
 // The lines of a listing, each written from `at` on into a slice that has room for it; the answer is the place behind it.
-ghost use Rattle.reading_lines.specs.Lines.{Room, Wrote, one_byte, letter_field, number_field, float_field, two_fields, float_fields, place_fields, centre_fields, piece_fields, how_field, slope_field, row_line, columns_line, overlap_line, bearing_of, bearing_fields, bearing_line, refusal_line};
+ghost use Rattle.reading_lines.specs.Lines.{Room, Wrote, one_byte, letter_field, number_field, float_field, two_fields, float_fields};
+ghost use Rattle.reading_lines.specs.Lines.{place_fields, centre_fields, piece_fields, how_field, slope_field, bearing_of, bearing_fields};
+ghost use Rattle.reading_lines.specs.Lines.{row_line, columns_line, overlap_line, bearing_line, refusal_line};
 
 use super::digits::{put_number, put_pattern};
 use mechanism::bearing::{Bearing, HowItBears};

@@ -1,5 +1,6 @@
 // The lines of a whole reading, or of a refusal, from the front of an array that has room for any listing.
 ghost use Rattle.std.specs.Prelude.{◌<◌, ◌≤◌};
+ghost use Rattle.mechanism.specs.Rows.{lists_of};
 ghost use Rattle.reading_lines.specs.Lines.{Room, Wrote};
 ghost use Rattle.reading_lines.specs.Readings.{Held, row_lines_in, pair_rows_in, other_lines, all_lines_in, refusal, read_lines};
 
@@ -8,53 +9,33 @@ use bodies::pose::Pose;
 use bodies::{Bodies, Problem};
 use mechanism::Mechanism;
 use mechanism::bearing::Bearing;
-use mechanism::rows::{Place, Row, Value, row_from};
+use mechanism::rows::{LentRows, Row};
 use reading::{PairReading, Reading, read};
 
 // Room for any listing.
 pub type Listed = [u8; 192352];
 
 // Row j and its columns, `coords` numbers each.
-fn row_lines(
-    out: &mut [u8],
-    at: usize,
-    places: &[Place],
-    values: &[Value],
-    grad: &[f64],
-    slip: &[f64],
-    coords: usize,
-    n: usize,
-    j: usize,
-) -> usize
-    requires { Held coords n places.now values.now grad.now slip.now × (j < n) × Room out.old at (row_lines_in coords places.now values.now grad.now slip.now j) }
-    ensures { Wrote out.old at (row_lines_in coords places.now values.now grad.now slip.now j) result out.new }
+fn row_lines(out: &mut [u8], at: usize, rows: &LentRows, coords: usize, n: usize, j: usize) -> usize
+    requires { Held coords n (lists_of rows.now) × (j < n) × Room out.old at (row_lines_in coords (lists_of rows.now) j) }
+    ensures { Wrote out.old at (row_lines_in coords (lists_of rows.now) j) result out.new }
 {
-    let r = row_from(places[j], values[j]);
+    let r = Row::from((rows.places[j], rows.values[j]));
     let k = row_line(out, at, r);
     let from = j * coords;
     let to = from + coords;
-    columns_line(out, k, &grad[from..to], &slip[from..to])
+    columns_line(out, k, &rows.grad[from..to], &rows.slip[from..to])
 }
 
 // Those of the n rows that name pair i.
-fn pair_rows(
-    out: &mut [u8],
-    at: usize,
-    places: &[Place],
-    values: &[Value],
-    grad: &[f64],
-    slip: &[f64],
-    coords: usize,
-    n: usize,
-    i: usize,
-) -> usize
-    requires { Held coords n places.now values.now grad.now slip.now × Room out.old at (pair_rows_in coords places.now values.now grad.now slip.now n i) }
-    ensures { Wrote out.old at (pair_rows_in coords places.now values.now grad.now slip.now n i) result out.new }
+fn pair_rows(out: &mut [u8], at: usize, rows: &LentRows, coords: usize, n: usize, i: usize) -> usize
+    requires { Held coords n (lists_of rows.now) × Room out.old at (pair_rows_in coords (lists_of rows.now) n i) }
+    ensures { Wrote out.old at (pair_rows_in coords (lists_of rows.now) n i) result out.new }
 {
     let mut k = at;
     for j in 0..n {
-        if places[j][0] == i {
-            k = row_lines(out, k, places, values, grad, slip, coords, n, j);
+        if rows.places[j][0] == i {
+            k = row_lines(out, k, rows, coords, n, j);
         }
     }
     k
@@ -71,21 +52,13 @@ fn other_lines(out: &mut [u8], at: usize, i: usize, x: PairReading) -> usize
 }
 
 // Pair by pair.
-fn all_lines(
-    out: &mut [u8],
-    places: &[Place],
-    values: &[Value],
-    grad: &[f64],
-    slip: &[f64],
-    coords: usize,
-    r: Reading,
-) -> usize
-    requires { Held coords r.count places.now values.now grad.now slip.now × (r.pairs ≤ 16) × Room out.old 0 (all_lines_in coords places.now values.now grad.now slip.now r) }
-    ensures { Wrote out.old 0 (all_lines_in coords places.now values.now grad.now slip.now r) result out.new }
+fn all_lines(out: &mut [u8], rows: &LentRows, coords: usize, r: Reading) -> usize
+    requires { Held coords r.count (lists_of rows.now) × (r.pairs ≤ 16) × Room out.old 0 (all_lines_in coords (lists_of rows.now) r) }
+    ensures { Wrote out.old 0 (all_lines_in coords (lists_of rows.now) r) result out.new }
 {
     let mut k: usize = 0;
     for i in 0..r.pairs {
-        let to = pair_rows(out, k, places, values, grad, slip, coords, r.count, i);
+        let to = pair_rows(out, k, rows, coords, r.count, i);
         k = other_lines(out, to, i, r.pair[i]);
     }
     k
@@ -106,8 +79,14 @@ pub fn read_lines(out: &mut Listed, m: Mechanism, q: Pose, margin: f64) -> usize
     let mut values = [[0.0; 5]; 256];
     let mut grad = [0.0; 4096];
     let mut slip = [0.0; 4096];
-    match read(m, q, margin, &mut places, &mut values, &mut grad, &mut slip) {
-        Ok(r) => all_lines(out, &places, &values, &grad, &slip, m.bodies.coords, r),
+    let mut rows = LentRows {
+        places: &mut places,
+        values: &mut values,
+        grad: &mut grad,
+        slip: &mut slip,
+    };
+    match read(m, q, margin, &mut rows) {
+        Ok(r) => all_lines(out, &rows, m.bodies.coords, r),
         Err(p) => refused(out, p),
     }
 }

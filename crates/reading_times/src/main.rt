@@ -5,99 +5,14 @@
 use bodies::Problem;
 use bodies::pose::{Lent, Pose};
 use mechanism::Mechanism;
-use mechanism::rows::{Place, Value};
+use mechanism::rows::RowArrays;
 use overlap::prepared::pair_overlap;
 use reading::Reading;
 use reading::prepared::read_in;
 use sheet::Sheet;
 use std::io;
 use std::io::{BufWriter, Read, Write};
-use tables::{
-    CenterRows, ChoiceRows, DiscNames, DiscRows, DrawnRows, FaceNames, FaceRows, PartRows,
-    SampledRows, SideRows,
-};
-
-// The tables of a description.
-#[derive(Drop)]
-struct Tables {
-    drawn: DrawnRows,
-    sampled: SampledRows,
-    parts: PartRows,
-    faces: FaceRows,
-    fnames: FaceNames,
-    discs: DiscRows,
-    dnames: DiscNames,
-    sides: SideRows,
-    centers: CenterRows,
-    choices: ChoiceRows,
-}
-
-fn blank_tables() -> Tables {
-    Tables {
-        drawn: [[0.0; 2]; 6144],
-        sampled: [[0.0; 2]; 13056],
-        parts: [[0; 5]; 32],
-        faces: [[0.0; 6]; 384],
-        fnames: [[0; 3]; 384],
-        discs: [[0.0; 7]; 896],
-        dnames: [[0; 3]; 896],
-        sides: [[0; 7]; 32],
-        centers: [[0.0; 2]; 32],
-        choices: [[0; 32]; 64],
-    }
-}
-
-fn prepared(m: Mechanism) -> Result<Tables, Problem> {
-    let mut t = blank_tables();
-    tables::prepare(
-        m,
-        &mut t.drawn,
-        &mut t.sampled,
-        &mut t.parts,
-        &mut t.faces,
-        &mut t.fnames,
-        &mut t.discs,
-        &mut t.dnames,
-        &mut t.sides,
-        &mut t.centers,
-        &mut t.choices,
-    )?;
-    Ok(t)
-}
-
-// What is lent for rows.
-#[derive(Drop)]
-struct Rows {
-    places: [Place; 1024],
-    values: [Value; 1024],
-    grad: [f64; 16384],
-    slip: [f64; 16384],
-}
-
-fn blank_rows() -> Rows {
-    Rows {
-        places: [[0; 7]; 1024],
-        values: [[0.0; 5]; 1024],
-        grad: [0.0; 16384],
-        slip: [0.0; 16384],
-    }
-}
-
-// The overlap of a pair of the prepared description.
-fn overlap_at(t: &Tables, m: Mechanism, q: Pose, pair: usize) -> Result<f64, Problem> {
-    pair_overlap(
-        m.bodies,
-        &t.drawn,
-        &t.sampled,
-        &t.parts[..m.parts.count.min(32)],
-        &t.sides,
-        &t.centers,
-        &t.choices,
-        m.pairs.count,
-        q,
-        pair,
-    )
-}
+use tables::Arrays;
 
 // The sum so far with the answers of every pair.
 fn with_pairs(sum: f64, r: Reading) -> f64 {
@@ -111,29 +26,17 @@ fn with_pairs(sum: f64, r: Reading) -> f64 {
 }
 
 // The sum of the answers of so many readings.
-fn sum_of(turns: usize, t: &Tables, m: Mechanism, q: &[Lent], margin: f64) -> f64 {
-    let mut rows = blank_rows();
+fn sum_of(turns: usize, t: &Arrays, m: Mechanism, q: &[Lent], margin: f64) -> f64 {
+    let mut rows = RowArrays::<1024, 16384>::blank();
     let mut sum = 0.0;
     for _ in 0..turns {
         let r = read_in(
             m.bodies,
-            &t.faces,
-            &t.fnames,
-            &t.discs,
-            &t.dnames,
-            &t.sides,
-            &t.centers,
-            &t.choices,
-            &t.drawn,
-            &t.sampled,
-            &t.parts[..m.parts.count.min(32)],
+            &t.lent(m.parts.count),
             m.pairs.count,
             q,
             margin,
-            &mut rows.places,
-            &mut rows.values,
-            &mut rows.grad,
-            &mut rows.slip,
+            &mut rows.lent(),
         );
         if let Ok(r) = r {
             sum = with_pairs(sum, r);
@@ -149,11 +52,12 @@ fn next_pair(pair: usize, n: usize) -> usize {
 }
 
 // The sum of so many overlaps, pair after pair.
-fn overlaps_of(turns: usize, t: &Tables, m: Mechanism, q: Pose) -> f64 {
+fn overlaps_of(turns: usize, t: &Arrays, m: Mechanism, q: Pose) -> f64 {
     let mut sum = 0.0;
     let mut pair = 0;
     for _ in 0..turns {
-        sum += overlap_at(t, m, q, pair).unwrap_or(0.0);
+        let x = pair_overlap(m.bodies, &t.lent(m.parts.count), m.pairs.count, q, pair);
+        sum += x.unwrap_or(0.0);
         pair = next_pair(pair, m.pairs.count);
     }
     sum
@@ -170,7 +74,7 @@ fn read_number<R: Read>(input: &mut R) -> io::Result<usize> {
 fn serve<R: Read, W: Write>(
     input: &mut R,
     out: &mut W,
-    t: &Tables,
+    t: &Arrays,
     s: Sheet,
     q: &[Lent],
     pose: Pose,
@@ -192,17 +96,18 @@ fn serve<R: Read, W: Write>(
     Ok(())
 }
 
-// What a text says, its description prepared, and the pose that it gives.
-fn posed(text: &[u8]) -> Result<(Sheet, Tables, Pose), Problem> {
+// What a text says, its description prepared in the arrays, and the pose that it gives.
+fn posed(t: &mut Arrays, text: &[u8]) -> Result<(Sheet, Pose), Problem> {
     let s = sheet::read(text)?;
     let pose = sheet::posed::posed(s.mechanism, s.entries)?;
-    let t = prepared(s.mechanism)?;
-    Ok((s, t, pose))
+    t.prepare(s.mechanism)?;
+    Ok((s, pose))
 }
 
 // Answers requests about the text; none where it is refused.
 fn answer<R: Read, W: Write>(input: &mut R, out: &mut W, text: &[u8]) -> io::Result<()> {
-    if let Ok((s, t, pose)) = posed(text) {
+    let mut t = Arrays::blank();
+    if let Ok((s, pose)) = posed(&mut t, text) {
         let q = sheet::posed::lent(s.entries);
         serve(input, out, &t, s, &q[..s.entries.count.min(16)], pose)?;
     }

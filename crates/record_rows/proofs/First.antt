@@ -22,7 +22,6 @@ use Rattle.mechanism.specs.declared.Mechanism.{Mechanism}
 use Rattle.mechanism.specs.declared.rows.Row.{Row}
 use Rattle.mechanism.proofs.Checks.{call_accepted}
 use Rattle.sides.specs.Contacts.{pair_bound, mechanism_bound}
-use Rattle.pair_rows.specs.PairRows.{Room}
 use Rattle.shown_rows.specs.Rows.{rows_of_pair, grads_of_pair, slips_of_pair, rows_of, grads_of, slips_of, room_for}
 use Rattle.shown_rows.proofs.Bound.{bounds-part}
 use Rattle.shown_rows.proofs.OfPair.{rows_few, grads-long, slips-long}
@@ -31,17 +30,6 @@ use Rattle.record_rows.specs.Records.{records_checked}
 use Rattle.record_rows.specs.Steps.{rows_first, grads_first, slips_first, held_in, PairRoom, PairRead}
 use Rattle.record_rows.specs.declared.PairRecords.{PairRecords}
 use Rattle.std.proofs.Common.{Ok}
-
--- room for fewer rows
-pub room-less : {coords at k n : ℕ} {places : List (List ℕ)} {values : List (List Float)} {grad slip : List Float} → k ≤ n
-    → Room coords at n places values grad slip → Room coords at k places values grad slip
-room-less {coords} {at} {k} {n} h r =
-    let c : (at + k) * coords ≤ (at + n) * coords = mul-le-mul (let x : at + k ≤ at + n = omega (arith, h) in x) (let z : coords ≤ coords = omega arith in z) in
-    let a = r.places_room in
-    let b = r.values_room in
-    let g = r.grad_room in
-    let s = r.slip_room in
-    record { places_room = omega (arith, h, a); values_room = omega (arith, h, b); grad_room = omega (arith, c, g); slip_room = omega (arith, c, s) }
 
 -- ---- lists joined pair by pair
 joined : {A : Type 0} (f : ℕ → List A) (k j : ℕ) → flat f (list_in (λ i. i) k j) ≡ join_in f k j

@@ -11,7 +11,7 @@ use Rattle.laws.proofs.Lists.{list_map, list_get, list_as}
 use Rattle.bodies.specs.declared.pose.Pose.{Pose}
 use Rattle.mechanism.specs.Description.{pair_at}
 use Rattle.mechanism.specs.Piece.{letter_of, part_of, seg_of, piece_in}
-use Rattle.mechanism.specs.Rows.{place_row, value_row, row_in}
+use Rattle.mechanism.specs.Rows.{RowLists, place_row, value_row, row_in}
 use Rattle.mechanism.specs.declared.Mechanism.{Mechanism}
 use Rattle.mechanism.specs.declared.features.Piece.{Piece}
 use Rattle.mechanism.specs.declared.features.Piece.TheVariants.{Segment, Arc, Vertex, Center}
@@ -22,7 +22,7 @@ use Rattle.pair_rows.specs.PairRows.{Put, Room}
 use Rattle.pair_rows.proofs.Store.{sets-get}
 use Rattle.shown_rows.specs.Rows.{rows_of_pair, grads_of_pair, slips_of_pair}
 use Rattle.shown_rows.proofs.OfPair.{rows_few}
-use Rattle.record_rows.specs.Steps.{row_at, records_in, held_in, PairRoom, PairRead}
+use Rattle.record_rows.specs.Steps.{lists_in, row_at, records_in, held_in, PairRoom, PairRead}
 use Rattle.record_rows.specs.declared.PairRecords.{PairRecords}
 use Rattle.record_rows.proofs.Put.{sets-part}
 
@@ -75,6 +75,11 @@ module _ {X : Type 0} (at : ℕ) (xs : List X) where
       ∙ ap (λ (t : List X). take at xs ++ t) (append-nil ys ∙ e ∙ ap (λ (k : ℕ). sets rest k gs) (zero-mul c) ∙ ap (λ (t : List X). sets t 0 gs) rest-is)
       ∙ sets-part at xs gs
 
+-- what is written stands where the arrays were lent from
+pub put-left : {coords at r : ℕ} {ps : List (List ℕ)} {vs : List (List Float)} {gs ss : List Float} {before after : RowLists} {p : List (List ℕ)} {v : List (List Float)} {g s : List Float}
+    → Put coords ps vs gs ss at r before after → p ≡ after.places → v ≡ after.values → g ≡ after.grad → s ≡ after.slip → Put coords ps vs gs ss at r before (lists_in p v g s)
+put-left put ep ev eg es = record { end = put.end; placed = ep ∙ put.placed; valued = ev ∙ put.valued; grads = eg ∙ put.grads; slips = es ∙ put.slips }
+
 -- ---- one pair
 module _ (m : Mechanism) (q : Pose) (margin : Float) (i at : ℕ) (grad slip : List Float) (pre : PairRoom m i at (length grad) (length slip))
     (places₀ : List (List ℕ)) (values₀ : List (List Float)) (lp : length places₀ ≡ 784) (lv : length values₀ ≡ 784) where
@@ -100,7 +105,10 @@ module _ (m : Mechanism) (q : Pose) (margin : Float) (i at : ℕ) (grad slip : L
       let l = rest-long start xs in
       omega (arith, s, z, l, h)
 
-  pub pair-room : Room m.bodies.coords 0 (pair_bound m i) places₀ values₀ (rest start grad) (rest start slip)
+  abbrev pub parts-lent : RowLists
+  parts-lent = record { places = places₀; values = values₀; grad = rest start grad; slip = rest start slip }
+
+  pub pair-room : Room m.bodies.coords 0 (pair_bound m i) parts-lent
   pair-room =
       let b = bound-few in
       record {
@@ -110,13 +118,12 @@ module _ (m : Mechanism) (q : Pose) (margin : Float) (i at : ℕ) (grad slip : L
         slip_room = rest-room slip pre.slip_room;
       }
 
-  module _ {n : ℕ} {places : List (List ℕ)} {values : List (List Float)} {gs ss : List Float}
-      (put : Put m.bodies.coords (map place_row pair-rows) (map value_row pair-rows) (grads_of_pair m q margin i) (slips_of_pair m q margin i) 0 n places₀ places values₀ values
-      (rest start grad) gs (rest start slip) ss) where
+  module _ {n : ℕ} {after : RowLists}
+      (put : Put m.bodies.coords (map place_row pair-rows) (map value_row pair-rows) (grads_of_pair m q margin i) (slips_of_pair m q margin i) 0 n parts-lent after) where
     n-is : n ≡ length pair-rows
     n-is = put.end ∙ zero-add (length (map place_row pair-rows)) ∙ length-map pair-rows place_row
 
-    pub records_there : (n ≤ length places) × (n ≤ length values) × (n ≤ 784)
+    pub records_there : (n ≤ length after.places) × (n ≤ length after.values) × (n ≤ 784)
     records_there =
         let e = n-is in
         let w = rows-within in
@@ -124,8 +131,9 @@ module _ (m : Mechanism) (q : Pose) (margin : Float) (i at : ℕ) (grad slip : L
         let b = ap length put.valued ∙ length-sets values₀ 0 (map value_row pair-rows) in
         (omega (arith, e, w, a, lp), omega (arith, e, w, b, lv), omega (arith, e, w))
 
-    pub pair_read : {r : PairRecords} → (r.count ≡ n) × (held_in r ≡ records_in places values n)
-        → PairRead m q margin i at r grad (take start grad ++ (gs ++ drop (length grad - start) (drop start grad))) slip (take start slip ++ (ss ++ drop (length slip - start) (drop start slip)))
+    pub pair_read : {r : PairRecords} → (r.count ≡ n) × (held_in r ≡ records_in after.places after.values n)
+        → PairRead m q margin i at r grad (take start grad ++ (after.grad ++ drop (length grad - start) (drop start grad)))
+        slip (take start slip ++ (after.slip ++ drop (length slip - start) (drop start slip)))
     pair_read held =
         let w = rows-within in
         let e = n-is in
@@ -133,8 +141,9 @@ module _ (m : Mechanism) (q : Pose) (margin : Float) (i at : ℕ) (grad slip : L
         record {
           few = omega (arith, w, e, c);
           counted = c ∙ e;
-          held = held.1 ∙ ap (records_in places values) e ∙ ap₂ (λ (p : List (List ℕ)) (v : List (List Float)). records_in p v (length pair-rows)) put.placed put.valued
+          held = held.1 ∙ ap (records_in after.places after.values) e
+              ∙ ap₂ (λ (p : List (List ℕ)) (v : List (List Float)). records_in p v (length pair-rows)) put.placed put.valued
               ∙ rows_back pair-rows places₀ values₀ (omega (arith, w, lp)) (omega (arith, w, lv));
-          grads = rest_back start grad m.bodies.coords (grads_of_pair m q margin i) gs put.grads;
-          slips = rest_back start slip m.bodies.coords (slips_of_pair m q margin i) ss put.slips;
+          grads = rest_back start grad m.bodies.coords (grads_of_pair m q margin i) after.grad put.grads;
+          slips = rest_back start slip m.bodies.coords (slips_of_pair m q margin i) after.slip put.slips;
         }

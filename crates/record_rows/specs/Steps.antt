@@ -5,7 +5,7 @@ use Rattle.laws.specs.Lists.{list_in}
 use Rattle.laws.specs.Loops.{join_in}
 use Rattle.bodies.specs.declared.pose.Pose.{Pose}
 use Rattle.mechanism.specs.Check.{check_of}
-use Rattle.mechanism.specs.Rows.{row_in}
+use Rattle.mechanism.specs.Rows.{RowLists, row_in}
 use Rattle.mechanism.specs.declared.Mechanism.{Mechanism}
 use Rattle.mechanism.specs.declared.rows.Row.{Row}
 use Rattle.sides.specs.Contacts.{pair_bound}
@@ -21,6 +21,10 @@ grads_first m q margin n = join_in (grads_of_pair m q margin) n 0
 
 abbrev pub slips_first : Mechanism → Pose → Float → ℕ → List Float
 slips_first m q margin n = join_in (slips_of_pair m q margin) n 0
+
+-- four arrays that rows stand in
+abbrev pub lists_in : List (List ℕ) → List (List Float) → List Float → List Float → RowLists
+lists_in places values grad slip = record { places = places; values = values; grad = grad; slip = slip }
 
 -- row i of two arrays of numbers, and the first n of them
 abbrev pub row_at : List (List ℕ) → List (List Float) → ℕ → Row

@@ -9,15 +9,16 @@ ghost use Rattle.sides.specs.Contacts.{pair_bound};
 ghost use Rattle.pair_rows.specs.PairRows.{Put, Room};
 ghost use Rattle.shown_rows.specs.Rows.{rows_of_pair, grads_of_pair, slips_of_pair, rows_of, grads_of, slips_of, answer_if, if_accepted};
 ghost use Rattle.record_rows.specs.Records.{records_checked};
-ghost use Rattle.record_rows.specs.Steps.{rows_first, grads_first, slips_first, records_in, held_in, PairRoom, PairRead};
+ghost use Rattle.record_rows.specs.Steps.{lists_in, rows_first, grads_first, slips_first, records_in, held_in, PairRoom, PairRead};
 
 use bodies::Problem;
 use bodies::pose::Pose;
 use candidates::pair_candidates;
 use drawing::body_of_side;
 use mechanism::Mechanism;
-use mechanism::rows::{Place, Row, Value, row_from};
+use mechanism::rows::{LentRows, Place, Row, Value};
 use pair_rows::{Source, put_shown};
+use proximities::no_candidate;
 use shown_rows::rows_checked;
 
 // The records of a pair: the first `count` of them.
@@ -40,21 +41,26 @@ fn put_pair(
     margin: f64,
     i: usize,
 ) -> usize
-    requires { (check_of m ≡ Ok tt) × (i < m.pairs.count) × Room m.bodies.coords 0 (pair_bound m i) places.old values.old grad.old slip.old }
-    ensures { Put m.bodies.coords (map place_row (rows_of_pair m q margin i)) (map value_row (rows_of_pair m q margin i)) (grads_of_pair m q margin i) (slips_of_pair m q margin i) 0 result places.old places.new values.old values.new grad.old grad.new slip.old slip.new }
+    requires { (check_of m ≡ Ok tt) × (i < m.pairs.count) × Room m.bodies.coords 0 (pair_bound m i) (lists_in places.old values.old grad.old slip.old) }
+    ensures { Put m.bodies.coords (map place_row (rows_of_pair m q margin i)) (map value_row (rows_of_pair m q margin i))
+        (grads_of_pair m q margin i) (slips_of_pair m q margin i) 0 result
+        (lists_in places.old values.old grad.old slip.old) (lists_in places.new values.new grad.new slip.new) }
 {
-    let mut near = [[0.0; 5]; 784];
-    let mut named = [[0; 7]; 784];
+    let mut candidates = [no_candidate(); 784];
     let p = m.pairs.pair[i];
     let s = Source {
         pair: i,
         a: body_of_side(m.parts, p.a),
         b: body_of_side(m.parts, p.b),
     };
-    let n = pair_candidates(&mut near, &mut named, m.parts, m.outlines, q, p);
-    put_shown(
-        places, values, grad, slip, 0, s, &near, &named, n, margin, m.bodies, q,
-    )
+    let n = pair_candidates(&mut candidates, m.parts, m.outlines, q, p);
+    let mut rows = LentRows {
+        places,
+        values,
+        grad,
+        slip,
+    };
+    put_shown(&mut rows, 0, s, &candidates[..n], margin, m.bodies, q)
 }
 
 // The first n rows of numbers as records.
@@ -62,10 +68,10 @@ fn records_from(places: &[Place], values: &[Value], n: usize) -> PairRecords
     requires { (n ≤ length places.now) × (n ≤ length values.now) × (n ≤ 784) }
     ensures { (result.count ≡ n) × (held_in result ≡ records_in places.now values.now n) }
 {
-    let none = row_from([0; 7], [0.0; 5]);
+    let none = Row::from(([0; 7], [0.0; 5]));
     let mut row = [none; 784];
     for i in 0..n {
-        row[i] = row_from(places[i], values[i]);
+        row[i] = Row::from((places[i], values[i]));
     }
     PairRecords { row, count: n }
 }
@@ -122,7 +128,10 @@ fn put_pairs(
     slip: &mut [f64],
 ) -> usize
     requires { records_checked m q (length out.old) (length grad.old) (length slip.old) ≡ Ok tt }
-    ensures { (result ≡ length (rows_first m q margin m.pairs.count)) × (out.new ≡ sets out.old 0 (rows_first m q margin m.pairs.count)) × (grad.new ≡ sets grad.old 0 (grads_first m q margin m.pairs.count)) × (slip.new ≡ sets slip.old 0 (slips_first m q margin m.pairs.count)) }
+    ensures { (result ≡ length (rows_first m q margin m.pairs.count))
+        × (out.new ≡ sets out.old 0 (rows_first m q margin m.pairs.count))
+        × (grad.new ≡ sets grad.old 0 (grads_first m q margin m.pairs.count))
+        × (slip.new ≡ sets slip.old 0 (slips_first m q margin m.pairs.count)) }
 {
     let mut at = 0;
     for i in 0..m.pairs.count {

@@ -7,6 +7,7 @@
 use bodies::pose::{Lent, Pose};
 use bodies::{Bodies, Body, Joint, Problem};
 use geometry::{Dir, Point};
+use mechanism::rows::RowArrays;
 use overlap::prepared::pair_overlap;
 use prepared_rows::rows_in;
 use reading::Reading;
@@ -15,6 +16,8 @@ use sheet::posed::{LentEntries, lent, posed};
 use sheet::{Entries, Sheet};
 use std::io;
 use std::io::{BufWriter, Write};
+use strips::tables::Tables;
+use strips::{ChoiceRow, DiscRow, FaceRow, PartRow, PieceRow, PointRow, SideRow};
 
 fn print_outcome<W: Write, T: Drop>(out: &mut W, a: Result<T, Problem>) -> io::Result<()> {
     match a {
@@ -40,72 +43,65 @@ fn with_slide(b: Bodies, parent: usize, x: f64, y: f64) -> Bodies {
     }
 }
 
+// Tables of one row each.
+#[derive(Drop)]
+struct OneRow {
+    numbers: [PieceRow; 1],
+    points: [PointRow; 1],
+    faces: [FaceRow; 1],
+    discs: [DiscRow; 1],
+    sides: [SideRow; 1],
+    choices: [ChoiceRow; 1],
+    parts: [PartRow; 1],
+}
+
+impl OneRow {
+    fn blank() -> OneRow {
+        OneRow {
+            numbers: [[0; 3]; 1],
+            points: [[0.0; 2]; 1],
+            faces: [[0.0; 6]; 1],
+            discs: [[0.0; 7]; 1],
+            sides: [[0; 7]; 1],
+            choices: [[0; 32]; 1],
+            parts: [[0; 5]; 1],
+        }
+    }
+
+    fn lent(&self) -> Tables<'_> {
+        Tables {
+            faces: &self.faces,
+            fnames: &self.numbers,
+            discs: &self.discs,
+            dnames: &self.numbers,
+            sides: &self.sides,
+            centers: &self.points,
+            choices: &self.choices,
+            drawn: &self.points,
+            sampled: &self.points,
+            parts: &self.parts,
+        }
+    }
+}
+
 // A reading of bodies without pairs.
 fn read_of(b: Bodies, q: &[Lent]) -> Result<Reading, Problem> {
-    let numbers = [[0; 3]; 1];
-    let points = [[0.0; 2]; 1];
-    read_in(
-        b,
-        &[[0.0; 6]; 1],
-        &numbers,
-        &[[0.0; 7]; 1],
-        &numbers,
-        &[[0; 7]; 1],
-        &points,
-        &[[0; 32]; 1],
-        &points,
-        &points,
-        &[[0; 5]; 1],
-        0,
-        q,
-        1.0,
-        &mut [[0; 7]; 1],
-        &mut [[0.0; 5]; 1],
-        &mut [0.0; 1],
-        &mut [0.0; 1],
-    )
+    let t = OneRow::blank();
+    let mut rows = RowArrays::<1, 1>::blank();
+    read_in(b, &t.lent(), 0, q, 1.0, &mut rows.lent())
 }
 
 // The rows of bodies without pairs.
 fn rows_of(b: Bodies, q: Pose) -> Result<usize, Problem> {
-    let numbers = [[0; 3]; 1];
-    let points = [[0.0; 2]; 1];
-    rows_in(
-        b,
-        &[[0.0; 6]; 1],
-        &numbers,
-        &[[0.0; 7]; 1],
-        &numbers,
-        &[[0; 7]; 1],
-        &points,
-        &[[0; 32]; 1],
-        &points,
-        &[[0; 5]; 1],
-        0,
-        q,
-        1.0,
-        &mut [[0; 7]; 1],
-        &mut [[0.0; 5]; 1],
-        &mut [0.0; 1],
-        &mut [0.0; 1],
-    )
+    let t = OneRow::blank();
+    let mut rows = RowArrays::<1, 1>::blank();
+    rows_in(b, &t.lent(), 0, q, 1.0, &mut rows.lent())
 }
 
 // The overlap of pair 0 of one.
 fn overlap_of(b: Bodies, q: Pose) -> Result<f64, Problem> {
-    let points = [[0.0; 2]; 1];
-    pair_overlap(
-        b,
-        &points,
-        &points,
-        &[[0; 5]; 1],
-        &[[0; 7]; 1],
-        &points,
-        &[[0; 32]; 1],
-        1,
-        q,
-        0,
-    )
+    let t = OneRow::blank();
+    pair_overlap(b, &t.lent(), 1, q, 0)
 }
 
 // All calls that take bodies, the pose that was placed before among what they are given.

@@ -9,7 +9,7 @@ use bodies::Problem;
 use bodies::pose::Pose;
 use mechanism::Mechanism;
 use mechanism::features::{letter, part, seg};
-use mechanism::rows::{Place, Row, Value, row_from};
+use mechanism::rows::{LentRows, Place, Row, RowArrays, Value};
 use sheet::Sheet;
 use shown_rows::rows_in_numbers;
 use std::io;
@@ -21,13 +21,7 @@ const PLACE: Place = [7, 1, 7, 7, 1, 7, 7];
 const VALUE: Value = [0.5; 5];
 
 // What is lent.
-#[derive(Drop)]
-struct Arrays {
-    places: [Place; 257],
-    values: [Value; 257],
-    grad: [f64; 4112],
-    slip: [f64; 4112],
-}
+type Arrays = RowArrays<257, 4112>;
 
 // Whether everything behind the first n rows still stands, and behind their k entries.
 fn is_kept(lent: &Arrays, n: usize, k: usize) -> bool {
@@ -88,7 +82,7 @@ fn is_same(
     answer: Result<usize, Problem>,
     lent: &Arrays,
 ) -> bool {
-    let mut row = [row_from(PLACE, VALUE); 257];
+    let mut row = [Row::from((PLACE, VALUE)); 257];
     let mut grad = [0.5; 4112];
     let mut slip = [0.5; 4112];
     let again = record_rows::rows(
@@ -116,15 +110,13 @@ fn tried(m: Mechanism, q: Pose, margin: f64, room: Room) -> Outcome {
         grad: [0.5; 4112],
         slip: [0.5; 4112],
     };
-    let answer = rows_in_numbers(
-        m,
-        q,
-        margin,
-        &mut lent.places[..room.places.min(257)],
-        &mut lent.values[..room.values.min(257)],
-        &mut lent.grad[..room.grads.min(4112)],
-        &mut lent.slip[..room.slips.min(4112)],
-    );
+    let mut rows = LentRows {
+        places: &mut lent.places[..room.places.min(257)],
+        values: &mut lent.values[..room.values.min(257)],
+        grad: &mut lent.grad[..room.grads.min(4112)],
+        slip: &mut lent.slip[..room.slips.min(4112)],
+    };
+    let answer = rows_in_numbers(m, q, margin, &mut rows);
     let n = answer.unwrap_or(0);
     let kept = is_kept(&lent, n, n.saturating_mul(m.bodies.coords));
     Outcome {
@@ -192,16 +184,9 @@ fn answer<W: Write>(out: &mut W, text: &[u8]) -> io::Result<()> {
 }
 
 fn main(rt: HostRuntime) -> io::Result<()> {
-    let mut input = rt.stdin();
-    let mut out = BufWriter::new(rt.alloc(), rt.stdout())?;
-    let mut buf = [0u8; 65537];
-    for _ in 0..1000000 {
-        let Some(n) = streams::next_text(&mut input, &mut buf)? else {
-            break;
-        };
-        if let Some(text) = buf.get(..n) {
-            answer(&mut out, text)?;
-        }
-    }
-    out.flush()
+    streams::for_each_text(
+        &mut rt.stdin(),
+        &mut BufWriter::new(rt.alloc(), rt.stdout())?,
+        answer,
+    )
 }

@@ -4,15 +4,14 @@
 ghost use Rattle.std.specs.Prelude.{◌≡◌, ◌≤◌, length, take, unwrap_or};
 ghost use Rattle.mechanism.specs.Rows.{pair_in, gap_in, row_in};
 ghost use Rattle.governing.specs.Governing.{governing_of, gap_of, records_in, row_entries};
-ghost use Rattle.row_records.specs.Records.{governing_record, gap_record, bearing_record, records_of};
-ghost use Rattle.row_exports.specs.Numbers.{how_number, bearing_numbers, bearing_found, bearing_by, refused_by, entries_over, surfaces_of};
+ghost use Rattle.row_records.specs.Records.{governing_record, gap_record, records_of};
+ghost use Rattle.sheet.specs.Read.{sheet_of};
+ghost use Rattle.row_exports.specs.Numbers.{how_number, bearing_numbers, sheet_bearing, bearing_by, refused_by, entries_over, surfaces_of};
 
 use bodies::Problem;
-use bodies::pose::Pose;
-use governing::{gap_in, governing_in, least, row_entries};
-use mechanism::Mechanism;
+use governing::{gap_in, governing_in, records_in, row_entries};
 use mechanism::bearing::{Bearing, HowItBears};
-use mechanism::rows::{Place, Row, Value, row_from};
+use mechanism::rows::{Place, ReadRows, Row, Value};
 
 // The number of the governing row of a pair among the first n rows, or among those that there are; n where there is none.
 #[unsafe(no_mangle)]
@@ -24,7 +23,12 @@ pub extern "C" fn sewqirun_governing(
 ) -> usize
     ensures { result ≡ unwrap_or (governing_of (pair_in places.now) (gap_in values.now) (records_in n (length places.now) (length values.now)) pair) n }
 {
-    governing_in(places, values, n, pair).unwrap_or(n)
+    let rows = ReadRows {
+        places,
+        values,
+        count: n,
+    };
+    governing_in(&rows, pair).unwrap_or(n)
 }
 
 // Its gap, or x where there is none.
@@ -38,7 +42,12 @@ pub extern "C" fn sewqirun_gap(
 ) -> f64
     ensures { result ≡ unwrap_or (gap_of (pair_in places.now) (gap_in values.now) (governing_of (pair_in places.now) (gap_in values.now) (records_in n (length places.now) (length values.now)) pair)) x }
 {
-    gap_in(places, values, n, pair).unwrap_or(x)
+    let rows = ReadRows {
+        places,
+        values,
+        count: n,
+    };
+    gap_in(&rows, pair).unwrap_or(x)
 }
 
 // ---- the same over records, in an array of the callee's own
@@ -49,24 +58,15 @@ pub struct Records {
     row: [Row; 64],
 }
 
-// Records by value, with the first n rows of numbers written over them by `row_records::records`.
-fn put_by_value(h: Records, places: &[Place], values: &[Value], n: usize) -> Records
-    requires { (n ≤ length places.now) × (n ≤ length values.now) × (n ≤ 64) }
-    ensures { take n result.row ≡ records_of places.now values.now n }
+// Rows of numbers as records, written by `row_records::records`.
+fn records_by_value(rows: &ReadRows) -> Records
+    requires { rows.now.count ≤ 64 }
+    ensures { let n = records_in rows.now.count (length rows.now.places.now) (length rows.now.values.now) in take n result.row ≡ records_of rows.now.places.now rows.now.values.now n }
 {
-    let mut row = h.row;
-    row_records::records(&mut row, places, values, n);
+    let none = Row::from(([0; 7], [0.0; 5]));
+    let mut row = [none; 64];
+    row_records::records(&mut row, rows);
     Records { row }
-}
-
-// The first n rows of numbers as records.
-fn records_by_value(places: &[Place], values: &[Value], n: usize) -> Records
-    requires { (n ≤ length places.now) × (n ≤ length values.now) × (n ≤ 64) }
-    ensures { take n result.row ≡ records_of places.now values.now n }
-{
-    let none = row_from([0; 7], [0.0; 5]);
-    let h = Records { row: [none; 64] };
-    put_by_value(h, places, values, n)
 }
 
 // The governing one of the first n.
@@ -94,9 +94,13 @@ pub extern "C" fn sewqirun_governing_record(
 ) -> usize
     ensures { result ≡ unwrap_or (governing_record (records_of places.now values.now (records_in 64 (length places.now) (length values.now))) pair) 64 }
 {
-    let n = least(64, least(places.len(), values.len()));
-    let h = records_by_value(places, values, n);
-    governing_of(h, n, pair).unwrap_or(64)
+    let rows = ReadRows {
+        places,
+        values,
+        count: 64,
+    };
+    let h = records_by_value(&rows);
+    governing_of(h, records_in(&rows), pair).unwrap_or(64)
 }
 
 // Its gap, x where there is none.
@@ -109,25 +113,25 @@ pub extern "C" fn sewqirun_gap_record(
 ) -> f64
     ensures { result ≡ unwrap_or (gap_record (records_of places.now values.now (records_in 64 (length places.now) (length values.now))) pair) x }
 {
-    let n = least(64, least(places.len(), values.len()));
-    let h = records_by_value(places, values, n);
-    gap_of(h, n, pair).unwrap_or(x)
+    let rows = ReadRows {
+        places,
+        values,
+        count: 64,
+    };
+    let h = records_by_value(&rows);
+    gap_of(h, records_in(&rows), pair).unwrap_or(x)
 }
 
 // ---- the bearing by records, of the sheet that a text says
 
-// The bearing of a pair by the first n.
-fn bearing_by(
-    m: Mechanism,
-    q: Pose,
-    h: Records,
-    n: usize,
-    pair: usize,
-) -> Result<Option<Bearing>, Problem>
+// The bearing of a pair by the first n, at the pose of the sheet that a text says.
+fn sheet_bearing(text: &[u8], h: Records, n: usize, pair: usize) -> Result<Option<Bearing>, Problem>
     requires { n ≤ 64 }
-    ensures { result ≡ bearing_record m q (take n h.row) pair }
+    ensures { result ≡ sheet_bearing (take n h.row) pair (sheet_of text.now) }
 {
-    row_records::bearing(m, q, &h.row[..n], pair)
+    let s = sheet::read(text)?;
+    let q = sheet::posed::posed(s.mechanism, s.entries)?;
+    row_records::bearing(s.mechanism, q, &h.row[..n], pair)
 }
 
 fn how_number(h: HowItBears) -> usize
@@ -165,24 +169,8 @@ fn bearing_numbers(found: Option<Bearing>, x: f64) -> BearingNumbers
     }
 }
 
-// The bearing of a pair by the first 64 records, at the pose of the sheet that a text says.
-#[tactic(auto, unfolding(crate::specs::Numbers::bearing_found))]
-fn bearing_found(
-    text: &[u8],
-    places: &[Place],
-    values: &[Value],
-    pair: usize,
-) -> Result<Option<Bearing>, Problem>
-    ensures { result ≡ bearing_found text.now places.now values.now pair }
-{
-    let s = sheet::read(text)?;
-    let q = sheet::posed::posed(s.mechanism, s.entries)?;
-    let n = least(64, least(places.len(), values.len()));
-    let h = records_by_value(places, values, n);
-    bearing_by(s.mechanism, q, h, n, pair)
-}
-
 // Writes the gap, the point and the slope of the bearing of a pair by the first 64 records, at the pose of the sheet that a text says, and answers how it bears.
+#[tactic(auto, unfolding(crate::specs::Numbers::bearing_by, crate::specs::Numbers::bearing_found))]
 #[unsafe(no_mangle)]
 pub extern "C" fn sewqirun_bearing_record(
     out: &mut Surfaces,
@@ -194,7 +182,13 @@ pub extern "C" fn sewqirun_bearing_record(
 ) -> usize
     ensures { (result ≡ (bearing_by text.now places.now values.now pair x).how) × (out.new ≡ (bearing_by text.now places.now values.now pair x).value) }
 {
-    let found = bearing_found(text, places, values, pair).unwrap_or(None);
+    let rows = ReadRows {
+        places,
+        values,
+        count: 64,
+    };
+    let h = records_by_value(&rows);
+    let found = sheet_bearing(text, h, records_in(&rows), pair).unwrap_or(None);
     let k = bearing_numbers(found, x);
     let value = k.value;
     *out = value;
@@ -235,7 +229,7 @@ pub extern "C" fn sewqirun_row_entries(
 pub extern "C" fn sewqirun_surfaces(out: &mut Surfaces, place: &Place, value: &Value)
     ensures { out.new ≡ surfaces_of (row_in place.now value.now) }
 {
-    let row = row_from(*place, *value);
+    let row = Row::from((*place, *value));
     let a = row.on_a();
     let b = row.on_b();
     *out = [a.x, a.y, b.x, b.y];

@@ -12,11 +12,11 @@ ghost use Rattle.row_records.specs.Private.{found_of, bearing_at, bearing_found}
 use bearings::{bearing_of, governed};
 use bodies::Problem;
 use bodies::pose::Pose;
-use governing::least;
+use governing::{least, records_in};
 use mechanism::bearing::Bearing;
 use mechanism::check::call_checked;
 use mechanism::pair::ContactPair;
-use mechanism::rows::{Place, Row, Value, row_from};
+use mechanism::rows::{ReadRows, Row};
 use mechanism::{Mechanism, Outlines, Pairs, Parts};
 use sides::contacts::{PairFeatures, pair_features_at};
 
@@ -99,46 +99,37 @@ pub fn bearing(m: Mechanism, q: Pose, rows: &[Row], pair: usize) -> Result<Optio
 
 // ---- rows in lent arrays as records
 
-fn record_at(places: &[Place], values: &[Value], i: usize) -> Row
-    requires { (i < length places.now) × (i < length values.now) }
-    ensures { result ≡ row_at places.now values.now i }
-{
-    row_from(places[i], values[i])
-}
-
-fn put_records(out: &mut [Row], places: &[Place], values: &[Value], n: usize)
-    requires { (n ≤ length places.now) × (n ≤ length values.now) × (n ≤ length out.old) }
-    ensures { out.new ≡ sets out.old 0 (records_of places.now values.now n) }
+fn put_records(out: &mut [Row], rows: &ReadRows, n: usize)
+    requires { n ≤ length out.old }
+    ensures { out.new ≡ sets out.old 0 (records_of rows.now.places.now rows.now.values.now n) }
 {
     for i in 0..n {
-        out[i] = record_at(places, values, i);
+        out[i] = rows.row(i);
     }
 }
 
-// Writes the first n rows of lent arrays as records, or as many as there are and have room; everything past them stays. Answers how many.
-pub fn records(out: &mut [Row], places: &[Place], values: &[Value], n: usize) -> usize
-    ensures { (result ≡ records_fit n (length places.now) (length values.now) (length out.old)) × (out.new ≡ sets out.old 0 (records_of places.now values.now (records_fit n (length places.now) (length values.now) (length out.old)))) }
+// Writes rows of lent arrays as records, as many as there are and have room; everything past them stays. Answers how many.
+pub fn records(out: &mut [Row], rows: &ReadRows) -> usize
+    ensures { let k = records_fit rows.now.count (length rows.now.places.now) (length rows.now.values.now) (length out.old) in (result ≡ k) × (out.new ≡ sets out.old 0 (records_of rows.now.places.now rows.now.values.now k)) }
 {
-    let k = least(least(n, least(places.len(), values.len())), out.len());
-    put_records(out, places, values, k);
+    let k = least(records_in(rows), out.len());
+    put_records(out, rows, k);
     k
 }
 
-// How side A of a pair bears on side B, by the pair's governing row among the first n rows, or among those that there are.
+// How side A of a pair bears on side B, by the pair's governing row.
 pub fn bearing_in(
     m: Mechanism,
     q: Pose,
-    places: &[Place],
-    values: &[Value],
-    n: usize,
+    rows: &ReadRows,
     pair: usize,
 ) -> Result<Option<Bearing>, Problem>
-    ensures { result ≡ bearing_from m q (row_at places.now values.now) (records_in n (length places.now) (length values.now)) pair }
+    ensures { result ≡ bearing_from m q (row_at rows.now.places.now rows.now.values.now) (records_in rows.now.count (length rows.now.places.now) (length rows.now.values.now)) pair }
 {
     call_checked(m, q.fits(m.bodies), true, true)?;
     if pair < m.pairs.count {
         let f = pair_features_at(m.parts, m.outlines, pair_at(m.pairs, pair));
-        return Ok(governed(f, q, places, values, n, pair));
+        return Ok(governed(f, q, rows, pair));
     }
     Ok(None)
 }

@@ -46,7 +46,18 @@ bounds t e =
     }
 
 pub no_tally-bounds : Bounds no_tally
-no_tally-bounds = record { coords = omega arith; bodies = omega arith; parts = omega arith; drawn = omega arith; segs = omega arith; pairs = omega arith; a_ranges = omega arith; a_segs = omega arith; b_ranges = omega arith; b_segs = omega arith }
+no_tally-bounds = record {
+  coords = omega arith;
+  bodies = omega arith;
+  parts = omega arith;
+  drawn = omega arith;
+  segs = omega arith;
+  pairs = omega arith;
+  a_ranges = omega arith;
+  a_segs = omega arith;
+  b_ranges = omega arith;
+  b_segs = omega arith;
+}
 
 pub room : (t : Tally) (r : Record) → Bounds (counted t r) → Room t r
 unfolding counted
@@ -78,5 +89,9 @@ narrow-fit (x ∷ xs) w fs = either (fits_form x.shape fs) (x.make fs) (first_fi
 end-small : (fs : List (List ℕ)) → number_at fs 4 ≤ 65535
 end-small fs = number_small (field_at fs 4)
 
+-- a record without a range
+free : List (List ℕ) → Unit {0}
+free fs = tt
+
 pub narrow : (fs : List (List ℕ)) → Narrow (record_of fs)
-narrow = narrow-fit forms ((λ _. tt), ((λ _. tt), ((λ _. tt), ((λ _. tt), ((λ _. tt), ((λ _. tt), ((λ _. tt), ((λ _. tt), ((λ _. tt), ((λ _. tt), ((λ _. tt), ((λ _. tt), (end-small, (end-small, ((λ _. tt), ((λ _. tt), tt))))))))))))))))
+narrow = narrow-fit forms (free, (free, (free, (free, (free, (free, (free, (free, (free, (free, (free, (free, (end-small, (end-small, (free, (free, tt))))))))))))))))

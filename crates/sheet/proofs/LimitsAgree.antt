@@ -163,12 +163,14 @@ pairs-pair {n} {a} {b} l g w =
     let out : Sides no_side no_side out_pair = (no_ranges _ refl, no_ranges _ refl) in
     let none : SideBounds no_side = record { ranges = omega arith; segs = omega arith } in
     record {
-      each = λ i h. stored_at (λ (p : ContactPair). pair_over p ≡ false) l n i (pair-within no_side no_side (new_pair g) none none new) (pair-within no_side no_side out_pair none none out) (λ e. w.each i (omega arith));
+      each = λ i h. stored_at (λ (p : ContactPair). pair_over p ≡ false) l n i
+          (pair-within no_side no_side (new_pair g) none none new) (pair-within no_side no_side out_pair none none out) (λ e. w.each i (omega arith));
       last = rw f (stored_here (Sides no_side no_side) l n new out);
     }
 
 -- the last pair anew
-pairs-last : {n : ℕ} {a b : Side} (l : List ContactPair) (a' b' : Side) (p : ContactPair) → SideBounds a' → SideBounds b' → Sides a' b' p → PairsHeld n a b l → PairsHeld n a' b' (set l (n - 1) p)
+pairs-last : {n : ℕ} {a b : Side} (l : List ContactPair) (a' b' : Side) (p : ContactPair)
+    → SideBounds a' → SideBounds b' → Sides a' b' p → PairsHeld n a b l → PairsHeld n a' b' (set l (n - 1) p)
 pairs-last {n} {a} {b} l a' b' p g h s w =
     let out : Sides a' b' out_pair = (out_ranges a', out_ranges b') in
     record {
@@ -273,7 +275,8 @@ three_of_lines text e = go (written_in text) (text-within text) e
   where
     go : (w : Result Sheet Problem) → Within w → kept w ≡ Err LimitPassed → w ≡ Err LimitPassed
     go (Err p) h f = f
-    go (Ok s) h f = absurd (of_checked (sheet_checked s) (then-not (check_of s.mechanism) (entries_checked s.entries.count s.mechanism.bodies.coords) (check_not s.mechanism h) (if_not (not (eqb s.entries.count s.mechanism.bodies.coords)) PoseNotMatching (λ g. omega arith))) f)
+    go (Ok s) h f = absurd (of_checked (sheet_checked s) (then-not (check_of s.mechanism) (entries_checked s.entries.count s.mechanism.bodies.coords)
+        (check_not s.mechanism h) (if_not (not (eqb s.entries.count s.mechanism.bodies.coords)) PoseNotMatching (λ g. omega arith))) f)
       where
         of_checked : (c : Checked) → NotThree c → kept_if c s ≡ Err LimitPassed → ⊥
         of_checked (Ok tt) n g = cc

@@ -77,7 +77,8 @@ module _ (t : Tally) (d : Draft) (l : List OutlineSeg) (r : Record) where
   unfolding all_within drafted fold_of
   keeps l' e s (stuck n) = refl
   keeps l' e s (whole rs) =
-      ap (λ (b : Bool). cond (b && all_within (counted t r) rs) (Ok (accepted (fold_of counted (counted t r) rs) (drafted (counted t r) (put t d r) rs) (sets l t.segs (edges (r ∷ rs))))) (Err LimitPassed)) e
+      ap (λ (b : Bool). cond (b && all_within (counted t r) rs)
+      (Ok (accepted (fold_of counted (counted t r) rs) (drafted (counted t r) (put t d r) rs) (sets l t.segs (edges (r ∷ rs))))) (Err LimitPassed)) e
       ∙ ap (λ (x : List OutlineSeg). cond (all_within (counted t r) rs) (Ok (accepted (fold_of counted (counted t r) rs) (drafted (counted t r) (put t d r) rs) x)) (Err LimitPassed)) (sym (s rs))
 
 -- the segments stay where the line is no L or A, and else have one more
@@ -147,7 +148,8 @@ module _ {text : List ℕ} {seg : List OutlineSeg} {made : Draft} {tally : Tally
   line-piece = piece text 10 at e w.inside q
 
   -- the last piece
-  pub at-end : e ≡ length text → {b : Bool} → b ≡ may_end (length (take (e - at) (drop at text))) stands → {x : Result Sheet Problem} → x ≡ ended b n good (accepted tally made seg) → x ≡ sheet_of_lines text
+  pub at-end : e ≡ length text → {b : Bool} → b ≡ may_end (length (take (e - at) (drop at text))) stands
+      → {x : Result Sheet Problem} → x ≡ ended b n good (accepted tally made seg) → x ≡ sheet_of_lines text
   unfolding lines all_within drafted edges fold_of
   at-end h {b} y z =
       z

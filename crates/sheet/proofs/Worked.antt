@@ -71,7 +71,8 @@ pub record RefusedTexts : Type 0 where
   pub order_first : written_in (text ("M,17" ∷ "G,3ff0000000000000" ∷ "G,3ff0000000000000" ∷ [])) ≡ Err (LineNotRead 3)
 
 pub refused-texts : RefusedTexts
-unfolding all_of fold_of onto split written decimal number_of pattern float_of letter_of is_kind fits_form first_fit counted within_limits no_draft put lines all_within drafted edges sheet_of_lines written_in
+unfolding all_of fold_of onto split written decimal number_of pattern float_of letter_of is_kind fits_form first_fit
+    counted within_limits no_draft put lines all_within drafted edges sheet_of_lines written_in
 refused-texts = record {
   empty = refl;
   only_margin = refl;
@@ -97,7 +98,8 @@ abbrev seventeen : List ℕ
 seventeen = text ("M,1" ∷ "G,3ff0000000000000" ∷ replicate 17 "T,0000000000000000,0000000000000000,3ff0000000000000")
 
 pub seventeen-entries : MatchResult (written_in seventeen) (λ s. s.entries.count ≡ 17) (λ p. ⊥)
-unfolding all_of fold_of onto split written decimal number_of pattern float_of letter_of is_kind fits_form first_fit counted within_limits no_draft put lines all_within drafted edges accepted sheet_of_lines written_in
+unfolding all_of fold_of onto split written decimal number_of pattern float_of letter_of is_kind fits_form first_fit
+    counted within_limits no_draft put lines all_within drafted edges accepted sheet_of_lines written_in
 seventeen-entries = refl
 
 -- ---- the sheet of document 01
@@ -155,5 +157,6 @@ pub paper-says : written_in paper ≡ Ok record {
   margin = one_f;
   entries = record { count = 1; entry = record { value = of_bits binary64 0x3ff8000000000000; sine = zero_f; cosine = one_f } ∷ replicate 15 no_entry };
 }
-unfolding all_of fold_of onto split written decimal number_of pattern float_of letter_of is_kind fits_form first_fit counted within_limits no_draft put lines all_within drafted edges accepted sheet_of_lines written_in dir_of root_of of_bits add mul div lt
+unfolding all_of fold_of onto split written decimal number_of pattern float_of letter_of is_kind fits_form first_fit
+    counted within_limits no_draft put lines all_within drafted edges accepted sheet_of_lines written_in dir_of root_of of_bits add mul div lt
 paper-says = refl

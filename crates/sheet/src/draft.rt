@@ -1,6 +1,7 @@
 // The description, put together line by line. The tally of the lines before a line says where it goes.
-ghost use Rattle.std.specs.Prelude.{◌≡◌, ◌<◌, ◌≤◌};
-ghost use Rattle.sheet.specs.Draft.{no_part, no_seg, no_outlines, no_surface, new_pair, no_entries, no_draft, drawn_part, grown, put_body, put_part, put_seg, put_pair, put_a, put_b, put_entry, put, Room};
+ghost use Rattle.std.specs.Prelude.{◌≡◌, ◌-◌, ◌<◌, ◌≤◌, get_or};
+ghost use Rattle.sheet.specs.Draft.{no_part, no_seg, no_outlines, no_surface, new_pair, no_entries, no_draft};
+ghost use Rattle.sheet.specs.Draft.{drawn_part, grown, out_pair, put_body, put_part, put_seg, put_pair, put_entry, put, Room};
 
 use super::Entries;
 use super::limits::Tally;
@@ -142,25 +143,20 @@ fn grow(mut s: Surface, n: usize, x: SurfaceRef) -> Surface
     s
 }
 
-// The last of n pairs gets one range more on side A after its first m; the same on side B.
-fn put_a(d: Draft, n: usize, m: usize, x: SurfaceRef) -> Draft
-    requires { (n ≤ 16) × (m < 4) }
-    ensures { result ≡ put_a d n m x }
+// The last of n pairs.
+fn last_pair(d: Draft, n: usize) -> ContactPair
+    requires { n ≤ 16 }
+    ensures { result ≡ get_or d.pair (n - 1) out_pair }
 {
-    let k = n.saturating_sub(1);
-    let p = d.pair[k];
-    let a = grow(p.a, m, x);
-    put_pair(d, k, ContactPair { a, ..p })
+    d.pair[n.saturating_sub(1)]
 }
 
-fn put_b(d: Draft, n: usize, m: usize, x: SurfaceRef) -> Draft
-    requires { (n ≤ 16) × (m < 4) }
-    ensures { result ≡ put_b d n m x }
+// The last of n pairs becomes another.
+fn put_last_pair(d: Draft, n: usize, p: ContactPair) -> Draft
+    requires { n ≤ 16 }
+    ensures { result ≡ put_pair d (n - 1) p }
 {
-    let k = n.saturating_sub(1);
-    let p = d.pair[k];
-    let b = grow(p.b, m, x);
-    put_pair(d, k, ContactPair { b, ..p })
+    put_pair(d, n.saturating_sub(1), p)
 }
 
 fn put_entry(mut d: Draft, e: Entry) -> Draft
@@ -199,8 +195,16 @@ pub(crate) fn put(d: Draft, t: Tally, r: Record) -> Draft
         Record::Drawn { body, role, sweep } => put_part(d, t.parts, new_part(body, role, sweep)),
         Record::Edge(_) => put_seg(d, t.parts, t.drawn + 1),
         Record::Paired(g) => put_pair(d, t.pairs, new_pair(g)),
-        Record::OnA(x) => put_a(d, t.pairs, t.a.ranges, x),
-        Record::OnB(x) => put_b(d, t.pairs, t.b.ranges, x),
+        Record::OnA(x) => {
+            let p = last_pair(d, t.pairs);
+            let a = grow(p.a, t.a.ranges, x);
+            put_last_pair(d, t.pairs, ContactPair { a, ..p })
+        }
+        Record::OnB(x) => {
+            let p = last_pair(d, t.pairs);
+            let b = grow(p.b, t.b.ranges, x);
+            put_last_pair(d, t.pairs, ContactPair { b, ..p })
+        }
         Record::Margin(margin) => Draft { margin, ..d },
         Record::Turned(e) => put_entry(d, e),
     }

@@ -1,4 +1,4 @@
--- The rows of all pairs, one pair behind the other, in the four lent arrays. Assumes nothing.
+-- The rows of all pairs, one pair behind the other, in the lent arrays. Assumes nothing.
 use Prim.Native.Nat.{ℕ, suc, ◌+◌, ◌*◌, ◌-◌, ◌<◌, ◌≤◌}
 use native.Mathlib.Omega.{arith}
 use native.Mathlib.Nat.{sub-zero, add-mul, suc-mul, zero-mul, mul-le-mul}
@@ -7,7 +7,7 @@ use mathlib.Core.List.{List, [], ◌∷◌, ◌++◌, map, map-append}
 use lib.Ieee.{Float}
 use lib.ListN.{length, length-map, length-append}
 use lib.Seq.{sets}
-use Rattle.mechanism.specs.Rows.{place_row, value_row}
+use Rattle.mechanism.specs.Rows.{RowLists, place_row, value_row}
 use Rattle.laws.specs.Lists.{flat, list_in}
 use Rattle.laws.specs.Loops.{Writing}
 use Rattle.laws.proofs.Lists.{list_turn, list_done}
@@ -30,35 +30,33 @@ flat-long f c h (x ∷ l) =
 
 -- ---- A loop over n pairs, with the rows, gradients and slips of each and its bound: those of the first i are written, and `at` is the next row.
 pub record AllPairs (rows : ℕ → List Row) (gs ss : ℕ → List Float) (bound : ℕ → ℕ) (n coords : ℕ)
-    (places₀ places : List (List ℕ)) (values₀ values : List (List Float)) (grad₀ grad slip₀ slip : List Float) (at i : ℕ) : Type 0 where
+    (before now : RowLists) (at i : ℕ) : Type 0 where
   pub upto : at ≤ sum_in bound i 0
-  pub placed : Writing places₀ 0 (map place_row (flat rows (list_in (λ j. j) n 0))) places at (map place_row (flat rows (list_in (λ j. j) (n - i) i)))
-  pub valued : Writing values₀ 0 (map value_row (flat rows (list_in (λ j. j) n 0))) values at (map value_row (flat rows (list_in (λ j. j) (n - i) i)))
-  pub grads : Writing grad₀ (0 * coords) (flat gs (list_in (λ j. j) n 0)) grad (at * coords) (flat gs (list_in (λ j. j) (n - i) i))
-  pub slips : Writing slip₀ (0 * coords) (flat ss (list_in (λ j. j) n 0)) slip (at * coords) (flat ss (list_in (λ j. j) (n - i) i))
+  pub placed : Writing before.places 0 (map place_row (flat rows (list_in (λ j. j) n 0))) now.places at (map place_row (flat rows (list_in (λ j. j) (n - i) i)))
+  pub valued : Writing before.values 0 (map value_row (flat rows (list_in (λ j. j) n 0))) now.values at (map value_row (flat rows (list_in (λ j. j) (n - i) i)))
+  pub grads : Writing before.grad (0 * coords) (flat gs (list_in (λ j. j) n 0)) now.grad (at * coords) (flat gs (list_in (λ j. j) (n - i) i))
+  pub slips : Writing before.slip (0 * coords) (flat ss (list_in (λ j. j) n 0)) now.slip (at * coords) (flat ss (list_in (λ j. j) (n - i) i))
 
-pub pairs_start : (rows : ℕ → List Row) (gs ss : ℕ → List Float) (bound : ℕ → ℕ) (n coords : ℕ) (places : List (List ℕ)) (values : List (List Float)) (grad slip : List Float)
-    → AllPairs rows gs ss bound n coords places places values values grad grad slip slip 0 0
-pairs_start rows gs ss bound n coords places values grad slip =
+pub pairs_start : (rows : ℕ → List Row) (gs ss : ℕ → List Float) (bound : ℕ → ℕ) (n coords : ℕ) (l : RowLists) → AllPairs rows gs ss bound n coords l l 0 0
+pairs_start rows gs ss bound n coords l =
     let e : list_in (λ j. j) (n - 0) 0 ≡ list_in (λ j. j) n 0 = ap (λ (k : ℕ). list_in (λ j. j) k 0) (sub-zero n) in
     record {
       upto = omega arith;
-      placed = starts (ap (λ (l : List ℕ). map place_row (flat rows l)) e);
-      valued = starts (ap (λ (l : List ℕ). map value_row (flat rows l)) e);
+      placed = starts (ap (λ (k : List ℕ). map place_row (flat rows k)) e);
+      valued = starts (ap (λ (k : List ℕ). map value_row (flat rows k)) e);
       grads = starts (ap (flat gs) e);
       slips = starts (ap (flat ss) e);
     }
 
 -- a part more, of which it is known what was written and where it ends
-appends-at : {A : Type 0} {out₀ : List A} {at₀ : ℕ} {all out : List A} {at : ℕ} {rest : List A} (xs : List A) {rest' out' : List A} {at' : ℕ} → rest ≡ xs ++ rest' → out' ≡ sets out at xs → at + length xs ≡ at'
-    → Writing out₀ at₀ all out at rest → Writing out₀ at₀ all out' at' rest'
+appends-at : {A : Type 0} {out₀ : List A} {at₀ : ℕ} {all out : List A} {at : ℕ} {rest : List A} (xs : List A) {rest' out' : List A} {at' : ℕ}
+    → rest ≡ xs ++ rest' → out' ≡ sets out at xs → at + length xs ≡ at' → Writing out₀ at₀ all out at rest → Writing out₀ at₀ all out' at' rest'
 appends-at {A} {out₀} {at₀} {all} xs {rest'} e o m w = subst₂ (λ (x : List A) (k : ℕ). Writing out₀ at₀ all x k rest') (sym o) m (appends xs e w)
 
-module _ {rows : ℕ → List Row} {gs ss : ℕ → List Float} {bound : ℕ → ℕ} {n coords : ℕ}
-    {places₀ places : List (List ℕ)} {values₀ values : List (List Float)} {grad₀ grad slip₀ slip : List Float} {at i : ℕ}
-    (w : AllPairs rows gs ss bound n coords places₀ places values₀ values grad₀ grad slip₀ slip at i) where
+module _ {rows : ℕ → List Row} {gs ss : ℕ → List Float} {bound : ℕ → ℕ} {n coords : ℕ} {before now : RowLists} {at i : ℕ}
+    (w : AllPairs rows gs ss bound n coords before now at i) where
   -- room for k rows of the next pair, where k is within its bound
-  pub pairs-room : (all k : ℕ) → Room coords 0 all places₀ values₀ grad₀ slip₀ → sum_in bound i 0 + bound i ≤ all → k ≤ bound i → Room coords at k places values grad slip
+  pub pairs-room : (all k : ℕ) → Room coords 0 all before → sum_in bound i 0 + bound i ≤ all → k ≤ bound i → Room coords at k now
   pairs-room all k r s h =
       let u = w.upto in
       let x : at + k ≤ 0 + all = omega (arith, u, s, h) in
@@ -73,9 +71,9 @@ module _ {rows : ℕ → List Row} {gs ss : ℕ → List Float} {bound : ℕ →
       let rd = r.slip_room in
       record { places_room = omega (arith, x, a, ra); values_room = omega (arith, x, b, rb); grad_room = omega (arith, m, c, rc); slip_room = omega (arith, m, d, rd) }
 
-  pub pairs-more : {places' : List (List ℕ)} {values' : List (List Float)} {grad' slip' : List Float} {r : ℕ} → i < n → length (rows i) ≤ bound i → length (gs i) ≡ length (rows i) * coords → length (ss i) ≡ length (rows i) * coords
-      → Put coords (map place_row (rows i)) (map value_row (rows i)) (gs i) (ss i) at r places places' values values' grad grad' slip slip'
-      → AllPairs rows gs ss bound n coords places₀ places' values₀ values' grad₀ grad' slip₀ slip' r (i + 1)
+  pub pairs-more : {next : RowLists} {r : ℕ} → i < n → length (rows i) ≤ bound i → length (gs i) ≡ length (rows i) * coords → length (ss i) ≡ length (rows i) * coords
+      → Put coords (map place_row (rows i)) (map value_row (rows i)) (gs i) (ss i) at r now next
+      → AllPairs rows gs ss bound n coords before next r (i + 1)
   unfolding flat
   pairs-more {r = r} h few lg ls p =
       let t : list_in (λ j. j) (n - i) i ≡ i ∷ list_in (λ j. j) (n - (i + 1)) (i + 1) = list_turn (λ j. j) n i h in
@@ -85,16 +83,23 @@ module _ {rows : ℕ → List Row} {gs ss : ℕ → List Float} {bound : ℕ →
       let lv = length-map (rows i) value_row in
       let u = w.upto in
       let s = sum_more bound i in
-      let m : r * coords ≡ at * coords + length (rows i) * coords = ap (λ (k : ℕ). k * coords) (let z : r ≡ at + length (rows i) = omega (arith, e, lp) in z) ∙ add-mul at (length (rows i)) coords in
+      let z : r ≡ at + length (rows i) = omega (arith, e, lp) in
+      let m : r * coords ≡ at * coords + length (rows i) * coords = ap (λ (k : ℕ). k * coords) z ∙ add-mul at (length (rows i)) coords in
       record {
         upto = omega (arith, u, s, e, lp, few);
-        placed = appends-at (map place_row (rows i)) (ap (λ (l : List ℕ). map place_row (flat rows l)) t ∙ map-append place_row (rows i) (flat rows rest)) p.placed (sym e) w.placed;
-        valued = appends-at (map value_row (rows i)) (ap (λ (l : List ℕ). map value_row (flat rows l)) t ∙ map-append value_row (rows i) (flat rows rest)) p.valued (omega (arith, e, lp, lv)) w.valued;
+        placed =
+            appends-at (map place_row (rows i)) (ap (λ (l : List ℕ). map place_row (flat rows l)) t ∙ map-append place_row (rows i) (flat rows rest))
+            p.placed (sym e) w.placed;
+        valued =
+            appends-at (map value_row (rows i)) (ap (λ (l : List ℕ). map value_row (flat rows l)) t ∙ map-append value_row (rows i) (flat rows rest))
+            p.valued (omega (arith, e, lp, lv)) w.valued;
         grads = appends-at (gs i) (ap (flat gs) t) p.grads (omega (arith, m, lg)) w.grads;
         slips = appends-at (ss i) (ap (flat ss) t) p.slips (omega (arith, m, ls)) w.slips;
       }
 
-  pub pairs_end : n ≤ i → Put coords (map place_row (flat rows (list_in (λ j. j) n 0))) (map value_row (flat rows (list_in (λ j. j) n 0))) (flat gs (list_in (λ j. j) n 0)) (flat ss (list_in (λ j. j) n 0)) 0 at places₀ places values₀ values grad₀ grad slip₀ slip
+  pub pairs_end : n ≤ i
+      → Put coords (map place_row (flat rows (list_in (λ j. j) n 0))) (map value_row (flat rows (list_in (λ j. j) n 0)))
+      (flat gs (list_in (λ j. j) n 0)) (flat ss (list_in (λ j. j) n 0)) 0 at before now
   unfolding flat
   pairs_end h =
       let f = list_done (λ j. j) n i h in

@@ -2,7 +2,7 @@
 use Prim.Native.Nat.{ℕ, ◌*◌, ◌≤◌}
 use native.Mathlib.Omega.{arith}
 use native.Mathlib.Nat.{zero-add, zero-mul, mul-le-mul}
-use mathlib.Core.Path.{◌≡◌, refl, sym, ap, ap₂, subst, ◌∙◌}
+use mathlib.Core.Path.{◌≡◌, sym, ap, ap₂, subst, ◌∙◌}
 use mathlib.Core.Bool.{Bool, true, false, false≢true, not, ◌&&◌}
 use mathlib.Core.List.{List, map}
 use lib.Dec.{leb}
@@ -10,7 +10,7 @@ use lib.Ieee.{Float}
 use lib.ListN.{length, length-map}
 use lib.Seq.{sets}
 use borrow.Author.Tests.{leb-true}
-use Rattle.mechanism.specs.Rows.{place_row, value_row}
+use Rattle.mechanism.specs.Rows.{RowLists, place_row, value_row}
 use Rattle.laws.proofs.Choice.{both}
 use Rattle.bodies.specs.Check.{Checked, and_then, refused_if}
 use Rattle.mechanism.specs.Check.{check_of, call_checked}
@@ -23,8 +23,8 @@ use Rattle.mechanism.specs.declared.rows.Row.{Row}
 use Rattle.mechanism.proofs.Checks.{call_accepted, accepted-few}
 use Rattle.sides.specs.Contacts.{mechanism_bound}
 use Rattle.pair_rows.specs.PairRows.{Put, Room}
-use Rattle.shown_rows.specs.Rows.{room_for, rows_checked, answer_if, if_accepted}
-use Rattle.std.proofs.Common.{Result, Ok, Err, is_ok}
+use Rattle.shown_rows.specs.Rows.{room_for, rows_checked, rows_over}
+use Rattle.std.proofs.Common.{Ok, Err, is_ok}
 
 -- ---- the list of a call whose room is asked last
 still_refused : (c : Checked) (fits room : Bool) (p : Problem)
@@ -43,18 +43,18 @@ room-last m fits room e =
     ap₂ (λ (c : Checked) (b : Bool). and_then c (and_then (refused_if (not b) PoseNotMatching) (and_then (refused_if (not true) NoSuchThing) (refused_if (not room) TooFewRows)))) a.0 a.1
 
 -- ---- room for k rows of `coords` numbers each, as it is tested
-pub has_room-for : (coords k : ℕ) (places : List (List ℕ)) (values : List (List Float)) (grad slip : List Float)
-    → ((leb k (length places) && leb k (length values)) && (leb (k * coords) (length grad) && leb (k * coords) (length slip))) ≡ true → Room coords 0 k places values grad slip
-has_room-for coords k places values grad slip e =
-    let x = both (leb k (length places) && leb k (length values)) (leb (k * coords) (length grad) && leb (k * coords) (length slip)) e in
-    let y = both (leb k (length places)) (leb k (length values)) x.0 in
-    let w = both (leb (k * coords) (length grad)) (leb (k * coords) (length slip)) x.1 in
+pub has_room-for : (coords k : ℕ) (l : RowLists)
+    → ((leb k (length l.places) && leb k (length l.values)) && (leb (k * coords) (length l.grad) && leb (k * coords) (length l.slip))) ≡ true → Room coords 0 k l
+has_room-for coords k l e =
+    let x = both (leb k (length l.places) && leb k (length l.values)) (leb (k * coords) (length l.grad) && leb (k * coords) (length l.slip)) e in
+    let y = both (leb k (length l.places)) (leb k (length l.values)) x.0 in
+    let w = both (leb (k * coords) (length l.grad)) (leb (k * coords) (length l.slip)) x.1 in
     let z = zero-add k in
     record {
-      places_room = subst (λ (j : ℕ). j ≤ length places) (sym z) (leb-true k (length places) y.0);
-      values_room = subst (λ (j : ℕ). j ≤ length values) (sym z) (leb-true k (length values) y.1);
-      grad_room = subst (λ (j : ℕ). j * coords ≤ length grad) (sym z) (leb-true (k * coords) (length grad) w.0);
-      slip_room = subst (λ (j : ℕ). j * coords ≤ length slip) (sym z) (leb-true (k * coords) (length slip) w.1);
+      places_room = subst (λ (j : ℕ). j ≤ length l.places) (sym z) (leb-true k (length l.places) y.0);
+      values_room = subst (λ (j : ℕ). j ≤ length l.values) (sym z) (leb-true k (length l.values) y.1);
+      grad_room = subst (λ (j : ℕ). j * coords ≤ length l.grad) (sym z) (leb-true (k * coords) (length l.grad) w.0);
+      slip_room = subst (λ (j : ℕ). j * coords ≤ length l.slip) (sym z) (leb-true (k * coords) (length l.slip) w.1);
     }
 
 module _ (m : Mechanism) where
@@ -65,40 +65,28 @@ module _ (m : Mechanism) where
   room-is places values grad slip e t =
       ap (λ (k : ℕ). (leb k places && leb k values) && (leb (k * m.bodies.coords) grad && leb (k * m.bodies.coords) slip)) (sym e) ∙ t
 
-  pub has_room : (places : List (List ℕ)) (values : List (List Float)) (grad slip : List Float)
-      → room_for m (length places) (length values) (length grad) (length slip) ≡ true → Room m.bodies.coords 0 (mechanism_bound m) places values grad slip
-  has_room places values grad slip e = has_room-for m.bodies.coords (mechanism_bound m) places values grad slip e
+  pub has_room : (l : RowLists) → room_for m (length l.places) (length l.values) (length l.grad) (length l.slip) ≡ true → Room m.bodies.coords 0 (mechanism_bound m) l
+  has_room l e = has_room-for m.bodies.coords (mechanism_bound m) l e
 
 pub columns_small : (m : Mechanism) (bound : ℕ) → check_of m ≡ Ok tt → bound ≤ 12544 → bound * m.bodies.coords ≤ 200704
 columns_small m bound e h =
     let p : bound * m.bodies.coords ≤ 12544 * 16 = mul-le-mul h (accepted-few m e).coords in
     omega (arith, p)
 
--- ---- what is left in the arrays
-module _ (checked : Checked) (rows : List Row) (gs ss : List Float) (places : List (List ℕ)) (values : List (List Float)) (grad slip : List Float) where
-  pub record Answered (r : Result ℕ Problem) (places' : List (List ℕ)) (values' : List (List Float)) (grad' slip' : List Float) : Type 0 where
-    pub value : r ≡ answer_if checked (length rows)
-    pub places_after : places' ≡ if_accepted checked (sets places 0 (map place_row rows)) places
-    pub values_after : values' ≡ if_accepted checked (sets values 0 (map value_row rows)) values
-    pub grad_after : grad' ≡ if_accepted checked (sets grad 0 gs) grad
-    pub slip_after : slip' ≡ if_accepted checked (sets slip 0 ss) slip
-
-  -- a refused call leaves everything as it was
-  pub none-answered : (p : Problem) → checked ≡ Err p → Answered (Err p) places values grad slip
-  none-answered p e = record { value = rw e refl; places_after = rw e refl; values_after = rw e refl; grad_after = rw e refl; slip_after = rw e refl }
-
-  pub rows-answered : (coords : ℕ) {n : ℕ} {places' : List (List ℕ)} {values' : List (List Float)} {grad' slip' : List Float} → checked ≡ Ok tt
-      → Put coords (map place_row rows) (map value_row rows) gs ss 0 n places places' values values' grad grad' slip slip'
-      → Answered (Ok n) places' values' grad' slip'
-  rows-answered coords e u =
-      let z = zero-mul coords in
-      record {
-        value = rw e (ap (λ (k : ℕ). Ok k) (u.end ∙ zero-add (length (map place_row rows)) ∙ length-map rows place_row));
-        places_after = rw e u.placed;
-        values_after = rw e u.valued;
-        grad_after = rw e (u.grads ∙ ap (λ (k : ℕ). sets grad k gs) z);
-        slip_after = rw e (u.slips ∙ ap (λ (k : ℕ). sets slip k ss) z);
-      }
+-- ---- what is left in the arrays, where all rows are written and the call is not refused
+pub rows-over : (coords : ℕ) (rows : List Row) (gs ss : List Float) {n : ℕ} {before after : RowLists}
+    → Put coords (map place_row rows) (map value_row rows) gs ss 0 n before after
+    → (n ≡ length rows) × (after ≡ rows_over (Ok tt) (record { places = map place_row rows; values = map value_row rows; grad = gs; slip = ss }) before)
+rows-over coords rows gs ss {before = before} u =
+    let z = zero-mul coords in (
+      u.end ∙ zero-add (length (map place_row rows)) ∙ length-map rows place_row,
+      lists_are u.placed u.valued (u.grads ∙ ap (λ (k : ℕ). sets before.grad k gs) z) (u.slips ∙ ap (λ (k : ℕ). sets before.slip k ss) z),
+    )
+  where
+    lists_are : {l m : RowLists} → l.places ≡ m.places → l.values ≡ m.values → l.grad ≡ m.grad → l.slip ≡ m.slip → l ≡ m
+    lists_are {l} {m} p v g s =
+        ap₂ (λ (x : List (List ℕ)) (y : List (List Float)). record { places = x; values = y; grad = l.grad; slip = l.slip }) p v
+        ∙ ap₂ (λ (x y : List Float). record { places = m.places; values = m.values; grad = x; slip = y }) g s
 
 -- the answer of the whole list of refusals, where all but the room is known
 module _ (m : Mechanism) (q : Pose) (a b c d : ℕ) where

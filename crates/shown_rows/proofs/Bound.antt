@@ -2,7 +2,7 @@
 use Prim.Native.Nat.{ℕ, ◌+◌, ◌*◌, ◌<◌, ◌≤◌}
 use native.Mathlib.Omega.{arith}
 use native.Mathlib.Nat.{mul-le-mul}
-use mathlib.Core.Path.{◌≡◌, ◌∙◌}
+use mathlib.Core.Path.{◌≡◌, refl, sym, subst, ◌∙◌}
 use mathlib.Core.Bool.{true}
 use Rattle.laws.proofs.Choice.{cond_yes}
 use Rattle.laws.proofs.Sums.{sum-part}
@@ -16,7 +16,9 @@ use Rattle.mechanism.proofs.Checks.{accepted-few}
 use Rattle.sides.specs.Contacts.{pair_bound, mechanism_bound, pair_features, pair_features_at, no_pair_features}
 use Rattle.sides.specs.declared.contacts.PairFeatures.{PairFeatures}
 use Rattle.sides.specs.declared.SideFeatures.{SideFeatures}
-use Rattle.sides.proofs.Few.{accepted-bound}
+use Rattle.sides.specs.Sizes.{FewOnSide}
+use Rattle.sides.proofs.Accepted.{are_drawn}
+use Rattle.sides.proofs.Few.{accepted-bound, pair-few}
 use Rattle.std.proofs.Common.{Ok}
 
 pub products_small : (a b : SideFeatures) → (a.faces ≤ 12) × (a.discs ≤ 28) × (b.faces ≤ 12) × (b.discs ≤ 28)
@@ -47,9 +49,16 @@ rows-small m e i h few =
 
 pub bounds-all : (m : Mechanism) → sum_in (pair_bound m) m.pairs.count 0 ≡ mechanism_bound m
 unfolding mechanism_bound
-bounds-all m = mathlib.Core.Path.refl
+bounds-all m = refl
 
 -- what a call has read of a drawn pair is the pair's features
 pub features_read : (ps : Parts) (o : Outlines) (p : ContactPair) {f : PairFeatures} → pair_drawn ps p ≡ true → f ≡ pair_features_at ps o p → f ≡ pair_features ps o p
 unfolding pair_features_at
 features_read ps o p d e = e ∙ cond_yes (pair_features ps o p) no_pair_features d
+
+-- how few faces and discs it has
+pub read_few : (ps : Parts) (o : Outlines) (p : ContactPair) {f : PairFeatures} → pair_drawn ps p ≡ true → f ≡ pair_features_at ps o p → FewOnSide f.a × FewOnSide f.b
+read_few ps o p d e =
+    let w = are_drawn ps p d in
+    let f = pair-few ps o p w.1 w.2 in
+    subst (λ (x : PairFeatures). FewOnSide x.a × FewOnSide x.b) (sym (features_read ps o p d e)) (f.a, f.b)

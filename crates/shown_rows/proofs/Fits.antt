@@ -85,7 +85,8 @@ unfolding pair_features side_of
 feature_b ps o p = refl
 
 -- ---- how many candidates a pair has
-each-short : {A B : Type 0} (f : A → B → List Candidate) → ((x : A) (y : B) → length (f x y) ≤ 1) → (l : List A) (r : List B) (n k : ℕ) → length l ≤ n → length r ≤ k → length (each f l r) ≤ n * k
+each-short : {A B : Type 0} (f : A → B → List Candidate) → ((x : A) (y : B) → length (f x y) ≤ 1) → (l : List A) (r : List B) (n k : ℕ)
+    → length l ≤ n → length r ≤ k → length (each f l r) ≤ n * k
 each-short f h l r n k a b =
     let s = flat-short (λ x. flat (f x) r) (length r) (λ x. let t = flat-short (f x) 1 (h x) r in omega (arith, t)) l in
     let t : length l * length r ≤ n * k = mul-le-mul a b in

@@ -1,5 +1,4 @@
 pub mod Bound
-pub mod Agree
 pub mod Fits
 pub mod AllPairs
 pub mod OfPair

@@ -1,62 +1,27 @@
 -- The rows of a mechanism at a pose (contact/rows.rs: hiding, margin, `push`, `rows`), with their gradients and slips. Definitions only.
-use Rattle.std.specs.Prelude.{ℕ, ◌*◌, Bool, true, not, ◌&&◌, cond, List, map, eqb, leb, length, get_or, Float, Result, Ok, Err}
-use Rattle.std.specs.Float.{nan}
+use Rattle.std.specs.Prelude.{ℕ, ◌*◌, Bool, true, ◌&&◌, List, map, leb, length, Float, Result, Ok, Err}
+use Rattle.std.proofs.lemmas.List.Edits.{sets}
 use Rattle.laws.specs.Lists.{flat, list_in}
 use Rattle.geometry.specs.Geometry.{vector_of}
-use Rattle.mechanism.specs.Check.{call_checked}
-use Rattle.mechanism.specs.Description.{pair_at}
-use Rattle.mechanism.specs.Piece.{same_piece}
+use Rattle.bodies.specs.Check.{Checked}
 use Rattle.bodies.specs.Pose.{pose_fits}
 use Rattle.bodies.specs.declared.Bodies.{Bodies}
+use Rattle.bodies.specs.declared.Problem.{Problem}
+use Rattle.bodies.specs.declared.pose.Pose.{Pose}
+use Rattle.mechanism.specs.Check.{call_checked}
+use Rattle.mechanism.specs.Description.{pair_at}
+use Rattle.mechanism.specs.Rows.{RowLists, place_row, value_row}
 use Rattle.mechanism.specs.declared.Mechanism.{Mechanism}
 use Rattle.mechanism.specs.declared.Outlines.{Outlines}
 use Rattle.mechanism.specs.declared.Parts.{Parts}
-use Rattle.mechanism.specs.declared.features.Piece.{Piece}
-use Rattle.mechanism.specs.declared.features.Piece.TheVariants as Piece
 use Rattle.mechanism.specs.declared.pair.ContactPair.{ContactPair}
-use Rattle.bodies.specs.declared.pose.Pose.{Pose}
 use Rattle.mechanism.specs.declared.rows.Row.{Row}
 use Rattle.sides.specs.Contacts.{pair_features, mechanism_bound}
 use Rattle.sides.specs.declared.contacts.PairFeatures.{PairFeatures}
-use Rattle.showing.specs.Showing.{shown}
-use Rattle.pair_rows.specs.PairRows.{along_of, left_of}
-use Rattle.proximities.specs.declared.Candidate.{Candidate}
 use Rattle.candidates.specs.Candidates.{pair_candidates}
-use Rattle.bodies.specs.declared.Problem.{Problem}
-use Rattle.bodies.specs.Check.{Checked}
-
--- ---- candidates by number
-abbrev pub no_candidate : Candidate
-no_candidate = record { a = Piece.Center 0; b = Piece.Center 0; who = 0; near = record { gap = nan; normal = record { x = nan; y = nan }; point = record { x = nan; y = nan } } }
-
-abbrev pub candidate_at : List Candidate → ℕ → Candidate
-candidate_at cs i = get_or cs i no_candidate
-
-abbrev pub gap_at : List Candidate → ℕ → Float
-gap_at cs i = (candidate_at cs i).near.gap
-
--- one of the two pieces decides; a term of document 01: the deciding piece is the corner, arc or centre that is read against a face
-abbrev pub decides : Candidate → Bool
-decides c = not (eqb c.who 0)
-
-abbrev pub deciding : Candidate → Piece
-deciding c = cond (eqb c.who 1) c.a c.b
-
-abbrev pub alike : Candidate → Candidate → Bool
-alike c d = (decides c && decides d) && same_piece (deciding c) (deciding d)
-
--- the numbers of the candidates that are shown, in order
-unfoldable pub shown_of : List Candidate → Float → List ℕ
-shown_of cs m = shown (gap_at cs) (λ i. decides (candidate_at cs i)) (λ i j. alike (candidate_at cs i) (candidate_at cs j)) (length cs) m
+use Rattle.pair_rows.specs.PairRows.{candidate_at, shown_of, row_of, along_of, left_of}
 
 -- ---- rows
--- the gap that is shown is the one computed
-abbrev pub shown_gap : Float → Float
-shown_gap x = x
-
-abbrev pub row_of : ℕ → Candidate → Row
-row_of pair c = record { pair = pair; feature = record { a = c.a; b = c.b }; gap = shown_gap c.near.gap; normal = c.near.normal; point = c.near.point }
-
 unfoldable pub pair_rows : Parts → Outlines → Pose → ContactPair → ℕ → Float → List Row
 pair_rows ps o q p pair m = let cs = pair_candidates ps o q p in map (λ i. row_of pair (candidate_at cs i)) (shown_of cs m)
 
@@ -111,3 +76,22 @@ answer_if (Err p) n = Err p
 abbrev pub if_accepted : {A : Type 0} → Checked → List A → List A → List A
 if_accepted (Ok tt) written before = written
 if_accepted (Err p) written before = before
+
+-- ---- in lent arrays
+-- the refusals of a call that was lent these
+abbrev pub rows_asked : Mechanism → Pose → RowLists → Checked
+rows_asked m q l = rows_checked m q (length l.places) (length l.values) (length l.grad) (length l.slip)
+
+-- all rows, as they stand in lent arrays
+abbrev pub shown_lists : Mechanism → Pose → Float → RowLists
+shown_lists m q margin = record {
+  places = map place_row (rows_of m q margin);
+  values = map value_row (rows_of m q margin);
+  grad = grads_of m q margin;
+  slip = slips_of m q margin;
+}
+
+-- what is written stands in front where the call is not refused; everything else is as before
+abbrev pub rows_over : Checked → (written before : RowLists) → RowLists
+rows_over (Ok tt) w b = record { places = sets b.places 0 w.places; values = sets b.values 0 w.values; grad = sets b.grad 0 w.grad; slip = sets b.slip 0 w.slip }
+rows_over (Err p) w b = b

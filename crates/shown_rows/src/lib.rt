@@ -2,13 +2,12 @@
 #![tactic(auto)]
 
 ghost use Rattle.std.specs.Prelude.{◌≡◌, true, map, ◌+◌, ◌*◌, ◌≤◌, length};
-ghost use Rattle.std.proofs.lemmas.List.Edits.{sets};
 ghost use Rattle.mechanism.specs.Check.{check_of, pair_drawn};
-ghost use Rattle.mechanism.specs.Rows.{place_row, value_row};
+ghost use Rattle.mechanism.specs.Rows.{place_row, value_row, lists_of};
 ghost use Rattle.sides.specs.Bounds.{row_bound};
 ghost use Rattle.sides.specs.Contacts.{pair_features, mechanism_bound};
 ghost use Rattle.pair_rows.specs.PairRows.{Put, Room};
-ghost use Rattle.shown_rows.specs.Rows.{rows_of, grads_of, slips_of, rows_checked, answer_if, if_accepted};
+ghost use Rattle.shown_rows.specs.Rows.{rows_of, grads_of, slips_of, rows_checked, answer_if, rows_asked, shown_lists, rows_over};
 
 use bodies::Problem;
 use bodies::pose::Pose;
@@ -16,27 +15,20 @@ use candidates::pair_candidates;
 use drawing::body_of_side;
 use mechanism::check::call_checked;
 use mechanism::pair::{ContactPair, PairGeometry};
-use mechanism::rows::{Place, Value};
+use mechanism::rows::LentRows;
 use mechanism::{Mechanism, Outlines, Parts};
 use pair_rows::{Source, put_shown};
+use proximities::no_candidate;
 use sides::SideFeatures;
 use sides::contacts::pair_features_at;
 
 // Writes the rows of all pairs of an accepted description.
-fn put_rows(
-    places: &mut [Place],
-    values: &mut [Value],
-    grad: &mut [f64],
-    slip: &mut [f64],
-    m: Mechanism,
-    q: Pose,
-    margin: f64,
-) -> usize
-    requires { (check_of m ≡ Ok tt) × Room m.bodies.coords 0 (mechanism_bound m) places.old values.old grad.old slip.old }
-    ensures { Put m.bodies.coords (map place_row (rows_of m q margin)) (map value_row (rows_of m q margin)) (grads_of m q margin) (slips_of m q margin) 0 result places.old places.new values.old values.new grad.old grad.new slip.old slip.new }
+fn put_rows(rows: &mut LentRows, m: Mechanism, q: Pose, margin: f64) -> usize
+    requires { (check_of m ≡ Ok tt) × Room m.bodies.coords 0 (mechanism_bound m) (lists_of rows.old) }
+    ensures { Put m.bodies.coords (map place_row (rows_of m q margin)) (map value_row (rows_of m q margin))
+        (grads_of m q margin) (slips_of m q margin) 0 result (lists_of rows.old) (lists_of rows.new) }
 {
-    let mut near = [[0.0; 5]; 784];
-    let mut named = [[0; 7]; 784];
+    let mut candidates = [no_candidate(); 784];
     let mut at = 0;
     for i in 0..m.pairs.count {
         let p = m.pairs.pair[i];
@@ -45,10 +37,8 @@ fn put_rows(
             a: body_of_side(m.parts, p.a),
             b: body_of_side(m.parts, p.b),
         };
-        let n = pair_candidates(&mut near, &mut named, m.parts, m.outlines, q, p);
-        at = put_shown(
-            places, values, grad, slip, at, s, &near, &named, n, margin, m.bodies, q,
-        );
+        let n = pair_candidates(&mut candidates, m.parts, m.outlines, q, p);
+        at = put_shown(rows, at, s, &candidates[..n], margin, m.bodies, q);
     }
     at
 }
@@ -111,17 +101,18 @@ pub fn rows_in_numbers(
     m: Mechanism,
     q: Pose,
     margin: f64,
-    places: &mut [Place],
-    values: &mut [Value],
-    grad: &mut [f64],
-    slip: &mut [f64],
+    rows: &mut LentRows,
 ) -> Result<usize, Problem>
-    ensures value { result ≡ answer_if (rows_checked m q (length places.old) (length values.old) (length grad.old) (length slip.old)) (length (rows_of m q margin)) }
-    ensures places_after { places.new ≡ if_accepted (rows_checked m q (length places.old) (length values.old) (length grad.old) (length slip.old)) (sets places.old 0 (map place_row (rows_of m q margin))) places.old }
-    ensures values_after { values.new ≡ if_accepted (rows_checked m q (length places.old) (length values.old) (length grad.old) (length slip.old)) (sets values.old 0 (map value_row (rows_of m q margin))) values.old }
-    ensures grad_after { grad.new ≡ if_accepted (rows_checked m q (length places.old) (length values.old) (length grad.old) (length slip.old)) (sets grad.old 0 (grads_of m q margin)) grad.old }
-    ensures slip_after { slip.new ≡ if_accepted (rows_checked m q (length places.old) (length values.old) (length grad.old) (length slip.old)) (sets slip.old 0 (slips_of m q margin)) slip.old }
+    ensures value { result ≡ answer_if (rows_asked m q (lists_of rows.old)) (length (rows_of m q margin)) }
+    ensures after { lists_of rows.new ≡ rows_over (rows_asked m q (lists_of rows.old)) (shown_lists m q margin) (lists_of rows.old) }
 {
-    rows_checked(m, q, places.len(), values.len(), grad.len(), slip.len())?;
-    Ok(put_rows(places, values, grad, slip, m, q, margin))
+    rows_checked(
+        m,
+        q,
+        rows.places.len(),
+        rows.values.len(),
+        rows.grad.len(),
+        rows.slip.len(),
+    )?;
+    Ok(put_rows(rows, m, q, margin))
 }

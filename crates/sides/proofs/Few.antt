@@ -25,7 +25,8 @@ use Rattle.mechanism.specs.declared.pair.Surface.{Surface}
 use Rattle.sides.specs.declared.PlacedFace.{PlacedFace}
 use Rattle.sides.specs.declared.SideFeatures.{SideFeatures}
 use Rattle.corners.specs.Corners.{face_of, arc_of, corner_of}
-use Rattle.sides.specs.Features.{Run, placed_face, placed_disc, faces_of_seg, discs_of_seg, faces_at, step_at, step_discs, end_discs, range_faces, range_discs, opening, previous_at, run_at, faces_of_range, discs_of_range, faces_of, discs_of, last_before, first_after, last_seg, between, meets, traversals_of, side_of}
+use Rattle.sides.specs.Features.{Run, placed_face, placed_disc, faces_of_seg, discs_of_seg, faces_at, step_at, step_discs, end_discs, range_faces, range_discs, opening, previous_at}
+use Rattle.sides.specs.Features.{run_at, faces_of_range, discs_of_range, faces_of, discs_of, last_before, first_after, last_seg, between, meets, traversals_of, side_of}
 use Rattle.sides.specs.Bounds.{total, Runs, DrawnSide, row_bound}
 use Rattle.sides.specs.Contacts.{center_of_b, pair_features, pair_bound, mechanism_bound}
 use Rattle.sides.specs.Sizes.{FewOnSide, FewFeatures, Sized}

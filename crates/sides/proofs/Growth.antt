@@ -38,7 +38,8 @@ grown-then {f} {g} {r} {fs} {fs'} {ds} {ds'} v w = record {
 }
 
 -- all of them, where there were none at first
-pub grown-all : {f r : Features} {fs fs' : List PlacedFace} {ds ds' : List PlacedDisc} → (f.faces ≡ 0) × (f.discs ≡ 0) × (f.face ≡ replicate 12 no_face) × (f.disc ≡ replicate 28 no_disc) → fs ≡ fs' → ds ≡ ds' → Grown f r fs ds
+pub grown-all : {f r : Features} {fs fs' : List PlacedFace} {ds ds' : List PlacedDisc} → (f.faces ≡ 0) × (f.discs ≡ 0) × (f.face ≡ replicate 12 no_face) × (f.disc ≡ replicate 28 no_disc)
+    → fs ≡ fs' → ds ≡ ds' → Grown f r fs ds
     → (r.faces ≡ length fs') × (r.face ≡ filled 12 no_face fs') × (r.discs ≡ length ds') × (r.disc ≡ filled 28 no_disc ds')
 grown-all {f} {r} {fs} {fs'} {ds} {ds'} z p q w = (
   w.more_faces ∙ ap₂ (λ (a b : ℕ). a + b) z.0 (ap length p) ∙ zero-add (length fs'),

@@ -29,7 +29,8 @@ module _ (ps : Parts) (o : Outlines) (pairs : Pairs) where
   pub pairs_start : {x : PairFeatures} → x ≡ no_pair_features → PairsWritten ps o pairs (replicate 16 x) 0
   pairs_start e = subst (λ (y : PairFeatures). PairsWritten ps o pairs (replicate 16 y) 0) (sym e) (starts refl)
 
-  pub pairs-turn : (i : ℕ) {f : PairFeatures} → pairs.count ≤ length pairs.pair → i < pairs.count → f ≡ pair_features ps o (pair_at pairs i) → pairs_from ps o pairs i ≡ f ∷ pairs_from ps o pairs (i + 1)
+  pub pairs-turn : (i : ℕ) {f : PairFeatures} → pairs.count ≤ length pairs.pair → i < pairs.count → f ≡ pair_features ps o (pair_at pairs i)
+      → pairs_from ps o pairs i ≡ f ∷ pairs_from ps o pairs (i + 1)
   pairs-turn i l h e =
       let k : length (take pairs.count pairs.pair) ≡ pairs.count = length-take-le pairs.count pairs.pair l in
       map-drop (pair_features ps o) (take pairs.count pairs.pair) i no_pair (omega arith)

@@ -43,7 +43,8 @@ module _ (ps : Parts) (o : Outlines) (u : Surface) (wanted : Bool) (few : FewPar
 
   pub center_started : {n m : ℕ} {c : Point} → DrawnSide ps u
       → n ≡ cond (is_part ps (first_range u).part) (start_of_part ps (first_range u).part) 0 → m ≡ cond (is_part ps (last_range u).part) (start_of_part ps (last_range u).part) 0
-      → c ≡ center_of wanted (axis_of (part_at ps (first_range u).part).sweep) (silhouette_from o n (part_at ps (first_range u).part)) (first_range u) (silhouette_from o m (part_at ps (last_range u).part)) (last_range u)
+      → c ≡ center_of wanted (axis_of (part_at ps (first_range u).part).sweep)
+      (silhouette_from o n (part_at ps (first_range u).part)) (first_range u) (silhouette_from o m (part_at ps (last_range u).part)) (last_range u)
       → c ≡ center_at ps o u wanted
   center_started d p q e =
       let some = d.some in

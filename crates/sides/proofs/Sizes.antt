@@ -20,7 +20,8 @@ use Rattle.sides.specs.Features.{Run, run_at, runs_in, no_run, traverse_of, forw
 use Rattle.sides.specs.Bounds.{Runs, DrawnSide}
 use Rattle.sides.proofs.Walked.{run_at_lem, runs_count, no_traversal}
 
-pub sized : (ts : Traversals) (j : ℕ) → j < ts.count → length ts.traversal ≡ 4 → ts.count ≤ 4 → Runs (runs_in ts) → (0 < (get_or ts.traversal j no_traversal).count) × ((get_or ts.traversal j no_traversal).count ≤ 12)
+pub sized : (ts : Traversals) (j : ℕ) → j < ts.count → length ts.traversal ≡ 4 → ts.count ≤ 4 → Runs (runs_in ts)
+    → (0 < (get_or ts.traversal j no_traversal).count) × ((get_or ts.traversal j no_traversal).count ≤ 12)
 sized ts j h l m r =
     let k = runs_count ts (omega arith) in
     let e : (run_at (runs_in ts) j).count ≡ (get_or ts.traversal j no_traversal).count = ap (λ (t : Run). t.count) (run_at_lem ts j h) in

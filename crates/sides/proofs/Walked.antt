@@ -1,4 +1,5 @@
--- A range's steps, from the silhouette's segments, and back from the array. Worked is named so that the worked sides are computed before: a wrong definition then fails at a plain example. Assumes nothing.
+-- A range's steps, from the silhouette's segments, and back from the array.
+-- Worked is named so that the worked sides are computed before: a wrong definition then fails at a plain example. Assumes nothing.
 use Prim.Native.Nat.{ℕ, ◌+◌, ◌-◌, ◌%◌, ◌<◌, ◌≤◌}
 use native.Mathlib.Omega.{arith}
 use native.Mathlib.Numerals.{add-one}
@@ -86,7 +87,8 @@ module _ (r : SurfaceRef) (sil : SilhouetteSegs) (s : Steps) (l : sil.count ≤ 
 
   pub backward_run : (b a : Option Seg) → steps_in s ≡ map (backward_step (segs_in sil)) (reverse (range r.start r.end))
       → b ≡ run_back (seg_of (get_or sil.seg (r.end % sil.count) no_seg)) → a ≡ run_back (seg_of (get_or sil.seg ((r.start + sil.count - 1) % sil.count) no_seg))
-      → ◌≡◌ {A = Run} (record { part = r.part; cut = true; count = s.count; steps = steps_in s; before = b; after = a; wrapped = eqb (r.end - r.start) sil.count; ends = r.start }) (backward_of r (segs_in sil))
+      → ◌≡◌ {A = Run} (record { part = r.part; cut = true; count = s.count; steps = steps_in s; before = b; after = a; wrapped = eqb (r.end - r.start) sil.count; ends = r.start })
+      (backward_of r (segs_in sil))
   unfolding backward_of
   backward_run b a e p q = run_by r.part true count e (p ∙ ap run_back (sym at_after)) (q ∙ ap run_back (sym at_before)) (ap (eqb (r.end - r.start)) (sym long)) refl
 

@@ -248,6 +248,13 @@ side_from body fs ds piece center = record {
   center = record { piece = piece; point = center };
 }
 
+-- the faces and discs that count
+abbrev pub faces_in : SideFeatures → List PlacedFace
+faces_in s = take s.faces s.face
+
+abbrev pub discs_in : SideFeatures → List PlacedDisc
+discs_in s = take s.discs s.disc
+
 -- one side of a pair; `wanted` says whether its centre on the axis is asked for
 unfoldable pub side_of : Parts → Outlines → Surface → Bool → SideFeatures
 side_of ps o u wanted =

@@ -1,7 +1,7 @@
 // The features of a side, read from the drawn outlines in its body's frame (contact/features.rs).
 #![tactic(auto)]
 
-ghost use Rattle.std.specs.Prelude.{◌≡◌, ◌++◌, map, reverse, ◌+◌, ◌-◌, ◌<◌, ◌≤◌, length, replicate, option_to_list};
+ghost use Rattle.std.specs.Prelude.{◌≡◌, map, reverse, ◌+◌, ◌-◌, ◌<◌, ◌≤◌, length, replicate, option_to_list, Some};
 ghost use Rattle.std.proofs.lemmas.List.Edits.{sets};
 ghost use Rattle.laws.specs.Fill.{range, filled};
 ghost use Rattle.laws.specs.Loops.{join_in};
@@ -10,11 +10,13 @@ ghost use Rattle.mechanism.specs.Check.{FewParts};
 ghost use Rattle.mechanism.specs.declared.features.Piece.TheVariants as Piece;
 ghost use Rattle.mechanism.specs.Segments.{outlines_in};
 ghost use Rattle.silhouette.specs.Silhouette.{segs_in, axis_of, silhouette_from};
-ghost use Rattle.corners.specs.Corners.{face_of, arc_of, corner_of};
-ghost use Rattle.sides.specs.Features.{forward_step, backward_step, forward_of, backward_of, traverse_of, seg_in, placed_face, placed_disc, faces_at, discs_at, first_seg, last_seg, meets, previous_at, range_faces, range_discs, step_discs, end_discs, last_before, first_after, faces_of, discs_of, crossing_of, middle_of, on_axis, center_of, center_at, traversal_of, traversals_of, run_of, steps_in, runs_in, no_face, no_disc, Grown, side_of, center_of_side};
+ghost use Rattle.sides.specs.Features.{forward_step, backward_step, forward_of, backward_of, traverse_of, seg_in, placed_disc, faces_of_seg, discs_of_seg, faces_at, discs_at, first_seg, last_seg};
+ghost use Rattle.sides.specs.Features.{meets, previous_at, range_faces, range_discs, step_discs, end_discs, last_before, first_after, faces_of, discs_of, crossing_of, middle_of, on_axis, center_of};
+ghost use Rattle.sides.specs.Features.{center_at, traversal_of, traversals_of, run_of, steps_in, runs_in, no_face, no_disc, Grown, side_of, center_of_side};
 ghost use Rattle.sides.specs.Bounds.{Runs, DrawnRange, DrawnSide};
 
 pub mod contacts;
+pub mod held;
 
 use bodies::pose::MaterialPoint;
 use corners::{arc, corner, face, run_back, vertex};
@@ -239,7 +241,7 @@ fn read_seg(
     seg: Seg,
 ) -> Features
     requires { (f.faces < 12) × (f.discs + 2 ≤ 28) }
-    ensures { Grown f result (placed_face (Piece.Segment part named) (face_of seg)) (placed_disc (Piece.Arc part named) (arc_of cut seg) ++ placed_disc (Piece.Vertex part starts) (corner_of previous seg)) }
+    ensures { Grown f result (faces_of_seg part named (Some seg)) (discs_of_seg part cut named starts previous (Some seg)) }
 {
     let mut g = f;
     let piece = Piece::Segment { part, seg: named };
@@ -375,41 +377,52 @@ fn first_after(ts: Traversals, k: usize) -> Option<Seg>
     }
 }
 
-fn no_features() -> Features
-    ensures { (result.faces ≡ 0) × (result.discs ≡ 0) × (result.face ≡ replicate 12 no_face) × (result.disc ≡ replicate 28 no_disc) }
+// A face that is not there.
+pub fn no_face() -> PlacedFace
+    ensures { result ≡ no_face }
 {
     let o = Point { x: 0.0, y: 0.0 };
-    let d = Dir { x: 0.0, y: 0.0 };
-    let no_face = PlacedFace {
+    PlacedFace {
         piece: Piece::Center { part: 0 },
         face: Face {
             a: o,
             b: o,
-            normal: d,
+            normal: Dir { x: 0.0, y: 0.0 },
         },
-    };
-    let no_disc = PlacedDisc {
+    }
+}
+
+// A disc that is not there.
+pub fn no_disc() -> PlacedDisc
+    ensures { result ≡ no_disc }
+{
+    let d = Dir { x: 0.0, y: 0.0 };
+    PlacedDisc {
         piece: Piece::Center { part: 0 },
         disc: Disc {
-            center: o,
+            center: Point { x: 0.0, y: 0.0 },
             radius: 0.0,
             from: d,
             to: d,
         },
-    };
-    let face = [no_face; 12];
-    let disc = [no_disc; 28];
+    }
+}
+
+fn no_features() -> Features
+    ensures { (result.faces ≡ 0) × (result.discs ≡ 0) × (result.face ≡ replicate 12 no_face) × (result.disc ≡ replicate 28 no_disc) }
+{
     Features {
         faces: 0,
-        face,
+        face: [no_face(); 12],
         discs: 0,
-        disc,
+        disc: [no_disc(); 28],
     }
 }
 
 fn read_all(ts: Traversals) -> Features
     requires { (ts.count ≤ 4) × Runs (runs_in ts) }
-    ensures { (result.faces ≡ length (faces_of (runs_in ts))) × (result.face ≡ filled 12 no_face (faces_of (runs_in ts))) × (result.discs ≡ length (discs_of (runs_in ts))) × (result.disc ≡ filled 28 no_disc (discs_of (runs_in ts))) }
+    ensures faces { (result.faces ≡ length (faces_of (runs_in ts))) × (result.face ≡ filled 12 no_face (faces_of (runs_in ts))) }
+    ensures discs { (result.discs ≡ length (discs_of (runs_in ts))) × (result.disc ≡ filled 28 no_disc (discs_of (runs_in ts))) }
 {
     let mut f = no_features();
     for k in 0..ts.count {

@@ -15,6 +15,7 @@ use Rattle.sides.specs.declared.SideFeatures.{SideFeatures}
 use Rattle.sides.specs.declared.contacts.PairFeatures.{PairFeatures}
 use Rattle.strips.specs.declared.PartFacts.{PartFacts}
 use Rattle.strips.specs.declared.SideFacts.{SideFacts}
+use Rattle.strips.specs.declared.tables.Tables.{Tables}
 
 -- ---- rows read
 -- the floats k and m of a row
@@ -76,31 +77,54 @@ disc_row d = d.center.x ∷ d.center.y ∷ d.radius ∷ d.from.x ∷ d.from.y �
 abbrev pub piece_row : Piece → List ℕ
 piece_row p = letter_of p ∷ part_of p ∷ seg_of p ∷ []
 
--- ---- rows of arrays
-abbrev pub point_at : List (List Float) → ℕ → Point
-point_at points i = point_from (get_or points i [])
+-- ---- the tables: their rows, as they stand in the lent arrays
+pub record TableRows : Type 0 where
+  pub faces : List (List Float)
+  pub fnames : List (List ℕ)
+  pub discs : List (List Float)
+  pub dnames : List (List ℕ)
+  pub sides : List (List ℕ)
+  pub centers : List (List Float)
+  pub choices : List (List ℕ)
+  pub drawn : List (List Float)
+  pub sampled : List (List Float)
+  pub parts : List (List ℕ)
 
-abbrev pub face_at : List (List Float) → ℕ → Face
-face_at faces i = face_from (get_or faces i [])
+-- those that tables lend
+abbrev pub table_rows : Tables → TableRows
+table_rows t = record {
+  faces = t.faces.now;
+  fnames = t.fnames.now;
+  discs = t.discs.now;
+  dnames = t.dnames.now;
+  sides = t.sides.now;
+  centers = t.centers.now;
+  choices = t.choices.now;
+  drawn = t.drawn.now;
+  sampled = t.sampled.now;
+  parts = t.parts.now;
+}
 
-abbrev pub disc_at : List (List Float) → ℕ → Disc
-disc_at discs i = disc_from (get_or discs i [])
+abbrev pub face_at : TableRows → ℕ → PlacedFace
+face_at t i = record { piece = piece_from (get_or t.fnames i []); face = face_from (get_or t.faces i []) }
 
-abbrev pub piece_at : List (List ℕ) → ℕ → Piece
-piece_at names i = piece_from (get_or names i [])
+abbrev pub disc_at : TableRows → ℕ → PlacedDisc
+disc_at t i = record { piece = piece_from (get_or t.dnames i []); disc = disc_from (get_or t.discs i []) }
 
-abbrev pub part_at : List (List ℕ) → ℕ → PartFacts
-part_at parts i = part_from (get_or parts i [])
+abbrev pub drawn_at : TableRows → ℕ → Point
+drawn_at t i = point_from (get_or t.drawn i [])
 
-abbrev pub side_at : List (List ℕ) → ℕ → SideFacts
-side_at sides i = facts_from (get_or sides i [])
+abbrev pub sampled_at : TableRows → ℕ → Point
+sampled_at t i = point_from (get_or t.sampled i [])
 
--- n faces with their pieces, the faces from row k on and the pieces from row j on
-abbrev pub faces_from : List (List Float) → ℕ → List (List ℕ) → ℕ → ℕ → List PlacedFace
-faces_from faces k names j n = list_in (λ i. record { piece = piece_at names (j + i); face = face_at faces (k + i) }) n 0
+abbrev pub center_at : TableRows → ℕ → Point
+center_at t k = point_from (get_or t.centers k [])
 
-abbrev pub discs_from : List (List Float) → ℕ → List (List ℕ) → ℕ → ℕ → List PlacedDisc
-discs_from discs k names j n = list_in (λ i. record { piece = piece_at names (j + i); disc = disc_at discs (k + i) }) n 0
+abbrev pub part_at : TableRows → ℕ → PartFacts
+part_at t i = part_from (get_or t.parts i [])
+
+abbrev pub side_at : TableRows → ℕ → SideFacts
+side_at t k = facts_from (get_or t.sides k [])
 
 -- ---- sides and pairs: the rows of a pair's side A and side B; of a pair above the sixteenth the rows behind those of all pairs
 abbrev pub row_a : ℕ → ℕ
@@ -116,17 +140,17 @@ row_of_material side = 2 * at_most side 33
 abbrev pub row_of_sampled : ℕ → ℕ
 row_of_sampled side = 2 * at_most side 33 + 1
 
-abbrev pub faces_of_side : List (List Float) → List (List ℕ) → SideFacts → List PlacedFace
-faces_of_side faces names s = faces_from faces s.face names s.face s.faces
+abbrev pub faces_of_side : TableRows → SideFacts → List PlacedFace
+faces_of_side t s = list_in (face_at t) s.faces s.face
 
-abbrev pub discs_of_side : List (List Float) → List (List ℕ) → SideFacts → List PlacedDisc
-discs_of_side discs names s = discs_from discs s.disc names s.disc s.discs
+abbrev pub discs_of_side : TableRows → SideFacts → List PlacedDisc
+discs_of_side t s = list_in (disc_at t) s.discs s.disc
 
-abbrev pub side_in : List (List Float) → List (List ℕ) → List (List Float) → List (List ℕ) → List (List ℕ) → List (List Float) → ℕ → SideFeatures
-side_in faces face_names discs disc_names sides centers k =
-    let s = side_at sides k in
-    side_from s.body (faces_of_side faces face_names s) (discs_of_side discs disc_names s) (Piece.Center s.part) (point_at centers k)
+abbrev pub features_by : TableRows → SideFacts → Point → SideFeatures
+features_by t s center = side_from s.body (faces_of_side t s) (discs_of_side t s) (Piece.Center s.part) center
 
-unfoldable pub pair_in : List (List Float) → List (List ℕ) → List (List Float) → List (List ℕ) → List (List ℕ) → List (List Float) → ℕ → PairFeatures
-pair_in faces face_names discs disc_names sides centers i =
-    record { a = side_in faces face_names discs disc_names sides centers (row_a i); b = side_in faces face_names discs disc_names sides centers (row_b i) }
+abbrev pub side_in : TableRows → ℕ → SideFeatures
+side_in t k = features_by t (side_at t k) (center_at t k)
+
+unfoldable pub pair_in : TableRows → ℕ → PairFeatures
+pair_in t i = record { a = side_in t (row_a i); b = side_in t (row_b i) }

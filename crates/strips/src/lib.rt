@@ -2,12 +2,14 @@
 // Where a number names no row, what is read there is NaN or 0.
 #![tactic(auto)]
 
-ghost use Rattle.std.specs.Prelude.{◌≡◌, ◌≤◌, get_or, []};
-ghost use Rattle.strips.specs.Strips.{at_most, SmallPart, SmallSide, row_a, row_b, row_of_material, row_of_sampled, face_from, disc_from, piece_from, point_from, part_from, facts_from, face_row, disc_row, piece_row};
+ghost use Rattle.std.specs.Prelude.{◌≡◌, ◌≤◌};
+ghost use Rattle.strips.specs.Strips.{at_most, row_a, row_b, row_of_material, row_of_sampled, face_from, disc_from, part_from, facts_from, face_row, disc_row};
+
+pub mod held;
+pub mod tables;
 
 use geometry::signed::{Disc, Face};
 use geometry::{Dir, Point};
-use mechanism::features::{Piece, letter, part, seg};
 
 // A face: its two ends and its normal.
 pub type FaceRow = [f64; 6];
@@ -75,63 +77,6 @@ pub fn disc_from(r: DiscRow) -> Disc
     }
 }
 
-pub fn piece_from(r: PieceRow) -> Piece
-    ensures { result ≡ piece_from r }
-{
-    mechanism::rows::piece_from(r[0], r[1], r[2])
-}
-
-// ---- rows of an array
-
-pub fn face_at(faces: &[FaceRow], i: usize) -> Face
-    ensures { result ≡ face_from (get_or faces.now i []) }
-{
-    if i < faces.len() {
-        return face_from(faces[i]);
-    }
-    let nan = 0.0 / 0.0;
-    Face {
-        a: Point { x: nan, y: nan },
-        b: Point { x: nan, y: nan },
-        normal: Dir { x: nan, y: nan },
-    }
-}
-
-pub fn disc_at(discs: &[DiscRow], i: usize) -> Disc
-    ensures { result ≡ disc_from (get_or discs.now i []) }
-{
-    if i < discs.len() {
-        return disc_from(discs[i]);
-    }
-    let nan = 0.0 / 0.0;
-    Disc {
-        center: Point { x: nan, y: nan },
-        radius: nan,
-        from: Dir { x: nan, y: nan },
-        to: Dir { x: nan, y: nan },
-    }
-}
-
-pub fn piece_at(names: &[PieceRow], i: usize) -> Piece
-    ensures { result ≡ piece_from (get_or names.now i []) }
-{
-    if i < names.len() {
-        return piece_from(names[i]);
-    }
-    Piece::Segment { part: 0, seg: 0 }
-}
-
-pub fn point_at(points: &[PointRow], i: usize) -> Point
-    ensures { result ≡ point_from (get_or points.now i []) }
-{
-    if i < points.len() {
-        let r = points[i];
-        return Point { x: r[0], y: r[1] };
-    }
-    let nan = 0.0 / 0.0;
-    Point { x: nan, y: nan }
-}
-
 // n, or m where it is more.
 pub fn at_most(n: usize, m: usize) -> usize
     ensures { (result ≡ at_most n m) × (result ≤ m) }
@@ -139,63 +84,33 @@ pub fn at_most(n: usize, m: usize) -> usize
     n.min(m)
 }
 
-pub fn part_from(r: PartRow) -> PartFacts
-    ensures { result ≡ part_from r }
-{
-    PartFacts {
-        body: r[0],
-        drawn: at_most(r[1], 65535),
-        points: at_most(r[2], 752),
-        sampled: at_most(r[3], 65535),
-        samples: at_most(r[4], 1598),
+impl From<PartRow> for PartFacts {
+    ghost from_gives = { λ r p. p ≡ part_from r };
+
+    fn from(r: PartRow) -> PartFacts {
+        PartFacts {
+            body: r[0],
+            drawn: at_most(r[1], 65535),
+            points: at_most(r[2], 752),
+            sampled: at_most(r[3], 65535),
+            samples: at_most(r[4], 1598),
+        }
     }
 }
 
-#[tactic(auto, using(crate::proofs::Bounds::part_small))]
-pub fn part_at(parts: &[PartRow], i: usize) -> PartFacts
-    ensures { (result ≡ part_from (get_or parts.now i [])) × SmallPart result }
-{
-    if i < parts.len() {
-        return part_from(parts[i]);
-    }
-    PartFacts {
-        body: 0,
-        drawn: 0,
-        points: 0,
-        sampled: 0,
-        samples: 0,
-    }
-}
+impl From<SideRow> for SideFacts {
+    ghost from_gives = { λ r s. s ≡ facts_from r };
 
-pub fn side_from(r: SideRow) -> SideFacts
-    ensures { result ≡ facts_from r }
-{
-    SideFacts {
-        body: r[0],
-        face: at_most(r[1], 65535),
-        faces: at_most(r[2], 12),
-        disc: at_most(r[3], 65535),
-        discs: at_most(r[4], 28),
-        part: r[5],
-        geometry: r[6],
-    }
-}
-
-#[tactic(auto, using(crate::proofs::Bounds::small_sides))]
-pub fn side_at(sides: &[SideRow], i: usize) -> SideFacts
-    ensures { (result ≡ facts_from (get_or sides.now i [])) × SmallSide result }
-{
-    if i < sides.len() {
-        return side_from(sides[i]);
-    }
-    SideFacts {
-        body: 0,
-        face: 0,
-        faces: 0,
-        disc: 0,
-        discs: 0,
-        part: 0,
-        geometry: 0,
+    fn from(r: SideRow) -> SideFacts {
+        SideFacts {
+            body: r[0],
+            face: at_most(r[1], 65535),
+            faces: at_most(r[2], 12),
+            disc: at_most(r[3], 65535),
+            discs: at_most(r[4], 28),
+            part: r[5],
+            geometry: r[6],
+        }
     }
 }
 
@@ -241,10 +156,4 @@ pub fn disc_row(d: Disc) -> DiscRow
     [
         d.center.x, d.center.y, d.radius, d.from.x, d.from.y, d.to.x, d.to.y,
     ]
-}
-
-pub fn piece_row(p: Piece) -> PieceRow
-    ensures { result ≡ piece_row p }
-{
-    [letter(p), part(p), seg(p)]
 }

@@ -5,7 +5,6 @@ use native.Mathlib.Nat.{add-zero, add-suc, suc-add, mul-zero, mul-suc, mul-add, 
 use mathlib.Core.Path.{◌≡◌, refl, sym, ap, ap₂, ◌∙◌}
 use mathlib.Core.Bool.{Bool, false}
 use mathlib.Core.List.{List, [], ◌∷◌, ◌++◌, map}
-use lib.Ieee.{Float}
 use lib.ListN.{length, get_or, length-append, length-map, get_or-append, replicate}
 use lib.Seq.{take-length, get_or-append-add}
 use Rattle.laws.specs.Fill.{filled}
@@ -33,10 +32,12 @@ use Rattle.sides.specs.declared.SideFeatures.{SideFeatures}
 use Rattle.sides.specs.declared.contacts.PairFeatures.{PairFeatures}
 use Rattle.sides.specs.Sizes.{FewOnSide}
 use Rattle.sides.proofs.Few.{accepted-few-features}
-use Rattle.strips.specs.Strips.{at_most, facts_from, face_from, disc_from, piece_from, point_from, point_at, face_row, disc_row, piece_row, side_at, side_in, pair_in, faces_of_side, discs_of_side, row_a, row_b, row_of_material, row_of_sampled}
+use Rattle.strips.specs.Strips.{TableRows, at_most, facts_from, face_from, disc_from, piece_from, point_from, center_at, features_by, face_row}
+use Rattle.strips.specs.Strips.{disc_row, piece_row, side_at, side_in, pair_in, row_a, row_b, row_of_material, row_of_sampled}
 use Rattle.strips.specs.declared.SideFacts.{SideFacts}
 use Rattle.strips.proofs.Rows.{piece_back}
-use Rattle.tables.specs.Tables.{up_to, Agrees, face_rows, face_names, disc_rows, disc_names, geometry_of, less_cuts, side_row, sampled_row, pair_sides, pair_centers, pair_choices, face_table, face_name_table, disc_table, disc_name_table, side_table, center_table, choice_table}
+use Rattle.tables.specs.Tables.{up_to, Agrees, face_rows, face_names, disc_rows, disc_names, geometry_of, less_cuts, side_row, sampled_row}
+use Rattle.tables.specs.Tables.{pair_sides, pair_centers, pair_choices, face_table, face_name_table, disc_table, disc_name_table, side_table, center_table, choice_table}
 use Rattle.tables.proofs.Known.{faces_a, faces_b, discs_a, discs_b, rows_both}
 use Rattle.tables.proofs.Points.{at-most_is}
 use Rattle.std.proofs.Common.{Ok}
@@ -67,10 +68,12 @@ module _ {A : Type 0} (f : ℕ → List A) (c : ℕ) (long : (k : ℕ) → lengt
   flat-get d (suc k) s (suc i) j h g =
       let rest = flat f (list_in (λ x. x) k (suc s)) in
       let e : c * suc i + j ≡ length (f s) + (c * i + j) = omega (arith, mul-suc c i, long s) in
-      ap (λ (n : ℕ). get_or (f s ++ rest) n d) e ∙ get_or-append-add (f s) rest (c * i + j) d ∙ flat-get d k (suc s) i j (omega arith) g ∙ ap (λ (n : ℕ). get_or (f n) j d) (suc-add s i ∙ sym (add-suc s i))
+      ap (λ (n : ℕ). get_or (f s ++ rest) n d) e ∙ get_or-append-add (f s) rest (c * i + j) d
+      ∙ flat-get d k (suc s) i j (omega arith) g ∙ ap (λ (n : ℕ). get_or (f n) j d) (suc-add s i ∙ sym (add-suc s i))
 
 -- row j of the i-th of n parts of c rows each
-pub row_read : {A : Type 0} (f : ℕ → List (List A)) (c n : ℕ) → ((k : ℕ) → length (f k) ≡ c) → (l : List (List A)) → Agrees l (flat f (up_to n)) → (i j : ℕ) → i < n → j < c → get_or l (c * i + j) [] ≡ get_or (f i) j []
+pub row_read : {A : Type 0} (f : ℕ → List (List A)) (c n : ℕ) → ((k : ℕ) → length (f k) ≡ c)
+    → (l : List (List A)) → Agrees l (flat f (up_to n)) → (i j : ℕ) → i < n → j < c → get_or l (c * i + j) [] ≡ get_or (f i) j []
 row_read {A} f c n long l e i j h g =
     let m : c * suc i ≤ c * n = mul-le-mul_left c (let z : suc i ≤ n = omega arith in z) in
     let z : 0 + i ≡ i = omega arith in
@@ -123,6 +126,12 @@ facts_back k g s h x y =
     ∙ ap₂ (λ (a b : ℕ). record { body = s.body; face = 12 * k; faces = s.faces; disc = a; discs = b; part = part_of s.center.piece; geometry = geometry_of g })
     (at-most_is (28 * k) 65535 (omega arith)) (at-most_is s.discs 28 y)
 
+-- a list from place k on
+list_from : {A : Type 0} (f : ℕ → A) (n k j : ℕ) → list_in f n (k + j) ≡ list_in (λ i. f (k + i)) n j
+unfolding list_in
+list_from f zero k j = refl
+list_from {A} f (suc n) k j = ap (λ (l : List A). f (k + j) ∷ l) (ap (list_in f n) (sym (add-suc k j)) ∙ list_from f n k (suc j))
+
 -- ---- an array of `cap` places that holds xs from its front, written as two tables and read back
 module _ {A B C : Type 0} (cap : ℕ) (d : A) (xs : List A) (few : length xs ≤ cap) (g : A → List B) (h : A → List C) (back : List B → List C → A) (same : (x : A) → back (g x) (h x) ≡ x) where
   held : {D : Type 0} (f : A → List D) (i : ℕ) → i < length xs → get_or (map f (filled cap d xs)) i [] ≡ f (get_or xs i d)
@@ -131,33 +140,39 @@ module _ {A B C : Type 0} (cap : ℕ) (d : A) (xs : List A) (few : length xs ≤
   array_back : (rows : List (List B)) (names : List (List C)) (k : ℕ)
       → ((i : ℕ) → i < cap → get_or rows (k + i) [] ≡ get_or (map g (filled cap d xs)) i [])
       → ((i : ℕ) → i < cap → get_or names (k + i) [] ≡ get_or (map h (filled cap d xs)) i [])
-      → list_in (λ i. back (get_or rows (k + i) []) (get_or names (k + i) [])) (length xs) 0 ≡ xs
+      → list_in (λ i. back (get_or rows i []) (get_or names i [])) (length xs) k ≡ xs
   array_back rows names k er en =
-      list_as (λ i. back (get_or rows (k + i) []) (get_or names (k + i) [])) xs d
+      ap (list_in (λ i. back (get_or rows i []) (get_or names i [])) (length xs)) (sym (add-zero k))
+      ∙ list_from (λ i. back (get_or rows i []) (get_or names i [])) (length xs) k 0
+      ∙ list_as (λ i. back (get_or rows (k + i) []) (get_or names (k + i) [])) xs d
       (λ i l. ap₂ back (er i (omega (arith, l, few)) ∙ held g i l) (en i (omega (arith, l, few)) ∙ held h i l) ∙ same (get_or xs i d))
       (length xs) 0 (omega arith)
       ∙ take-length xs
 
 -- ---- a side read back
 -- the rows of side k in the tables are those of s
-record SideRows (faces : List (List Float)) (fnames : List (List ℕ)) (discs : List (List Float)) (dnames : List (List ℕ)) (k : ℕ) (s : SideFeatures) : Type 0 where
-  face : (i : ℕ) → i < 12 → get_or faces (12 * k + i) [] ≡ get_or (face_rows s) i []
-  fname : (i : ℕ) → i < 12 → get_or fnames (12 * k + i) [] ≡ get_or (face_names s) i []
-  disc : (i : ℕ) → i < 28 → get_or discs (28 * k + i) [] ≡ get_or (disc_rows s) i []
-  dname : (i : ℕ) → i < 28 → get_or dnames (28 * k + i) [] ≡ get_or (disc_names s) i []
+record SideRows (t : TableRows) (k : ℕ) (s : SideFeatures) : Type 0 where
+  face : (i : ℕ) → i < 12 → get_or t.faces (12 * k + i) [] ≡ get_or (face_rows s) i []
+  fname : (i : ℕ) → i < 12 → get_or t.fnames (12 * k + i) [] ≡ get_or (face_names s) i []
+  disc : (i : ℕ) → i < 28 → get_or t.discs (28 * k + i) [] ≡ get_or (disc_rows s) i []
+  dname : (i : ℕ) → i < 28 → get_or t.dnames (28 * k + i) [] ≡ get_or (disc_names s) i []
 
-module _ (faces : List (List Float)) (fnames : List (List ℕ)) (discs : List (List Float)) (dnames sides : List (List ℕ)) (centers : List (List Float)) (r k : ℕ) (g : PairGeometry) where
-  from_back : (body part : ℕ) (fs : List PlacedFace) (ds : List PlacedDisc) (c : Point) → length fs ≤ 12 → length ds ≤ 28 → SideRows faces fnames discs dnames k (side_from body fs ds (Piece.Center part) c)
-      → side_at sides r ≡ facts_of k g (side_from body fs ds (Piece.Center part) c) → point_at centers r ≡ c → side_in faces fnames discs dnames sides centers r ≡ side_from body fs ds (Piece.Center part) c
+module _ (t : TableRows) (r k : ℕ) (g : PairGeometry) where
+  from_back : (body part : ℕ) (fs : List PlacedFace) (ds : List PlacedDisc) (c : Point) → length fs ≤ 12 → length ds ≤ 28 → SideRows t k (side_from body fs ds (Piece.Center part) c)
+      → side_at t r ≡ facts_of k g (side_from body fs ds (Piece.Center part) c) → center_at t r ≡ c → side_in t r ≡ side_from body fs ds (Piece.Center part) c
   from_back body part fs ds c few-f few-d w e p =
-      let x = array_back 12 no_face fs few-f (λ q. face_row q.face) (λ q. piece_row q.piece) (λ a b. record { piece = piece_from b; face = face_from a }) (λ q. ap (λ n. record { piece = n; face = q.face }) (piece_back q.piece)) faces fnames (12 * k) w.face w.fname in
-      let y = array_back 28 no_disc ds few-d (λ q. disc_row q.disc) (λ q. piece_row q.piece) (λ a b. record { piece = piece_from b; disc = disc_from a }) (λ q. ap (λ n. record { piece = n; disc = q.disc }) (piece_back q.piece)) discs dnames (28 * k) w.disc w.dname in
-      ap (λ (s : SideFacts). side_from s.body (faces_of_side faces fnames s) (discs_of_side discs dnames s) (Piece.Center s.part) (point_at centers r)) e
-      ∙ ap₂ (λ (l : List PlacedFace) (m : List PlacedDisc). side_from body l m (Piece.Center part) (point_at centers r)) x y
+      let x = array_back 12 no_face fs few-f (λ q. face_row q.face) (λ q. piece_row q.piece) (λ a b. record { piece = piece_from b; face = face_from a })
+      (λ q. ap (λ n. record { piece = n; face = q.face }) (piece_back q.piece))
+      t.faces t.fnames (12 * k) w.face w.fname in
+      let y = array_back 28 no_disc ds few-d (λ q. disc_row q.disc) (λ q. piece_row q.piece) (λ a b. record { piece = piece_from b; disc = disc_from a })
+      (λ q. ap (λ n. record { piece = n; disc = q.disc }) (piece_back q.piece))
+      t.discs t.dnames (28 * k) w.disc w.dname in
+      ap (λ (s : SideFacts). features_by t s (center_at t r)) e
+      ∙ ap₂ (λ (l : List PlacedFace) (m : List PlacedDisc). side_from body l m (Piece.Center part) (center_at t r)) x y
       ∙ ap (λ (q : Point). side_from body fs ds (Piece.Center part) q) p
 
-  side-back : (ps : Parts) (o : Outlines) (u : Surface) (wanted : Bool) → FewOnSide (side_of ps o u wanted) → SideRows faces fnames discs dnames k (side_of ps o u wanted)
-      → side_at sides r ≡ facts_of k g (side_of ps o u wanted) → point_at centers r ≡ (side_of ps o u wanted).center.point → side_in faces fnames discs dnames sides centers r ≡ side_of ps o u wanted
+  side-back : (ps : Parts) (o : Outlines) (u : Surface) (wanted : Bool) → FewOnSide (side_of ps o u wanted) → SideRows t k (side_of ps o u wanted)
+      → side_at t r ≡ facts_of k g (side_of ps o u wanted) → center_at t r ≡ (side_of ps o u wanted).center.point → side_in t r ≡ side_of ps o u wanted
   unfolding side_of
   side-back ps o u wanted few w e p = from_back _ _ (faces_of (traversals_of ps o u)) (discs_of (traversals_of ps o u)) _ few.faces few.discs w e p
 
@@ -167,6 +182,20 @@ features_of m i = pair_features m.parts m.outlines (pair_at m.pairs i)
 
 abbrev pub cuts_of : Mechanism → ℕ → Bool
 cuts_of m i = less_cuts (pair_at m.pairs i).geometry
+
+-- how many faces and discs the sides of each pair hold
+module _ (m : Mechanism) where
+  faces-long-a : (k : ℕ) → length (features_of m k).a.face ≡ 12
+  faces-long-a k = faces_a m.parts m.outlines (pair_at m.pairs k)
+
+  faces-long-b : (k : ℕ) → length (features_of m k).b.face ≡ 12
+  faces-long-b k = faces_b m.parts m.outlines (pair_at m.pairs k)
+
+  discs-long-a : (k : ℕ) → length (features_of m k).a.disc ≡ 28
+  discs-long-a k = discs_a m.parts m.outlines (pair_at m.pairs k)
+
+  discs-long-b : (k : ℕ) → length (features_of m k).b.disc ≡ 28
+  discs-long-b k = discs_b m.parts m.outlines (pair_at m.pairs k)
 
 module _ (m : Mechanism) (e : check_of m ≡ Ok tt) (i : ℕ) (h : i < m.pairs.count) where
   i_small : i < 16
@@ -178,80 +207,83 @@ module _ (m : Mechanism) (e : check_of m ≡ Ok tt) (i : ℕ) (h : i < m.pairs.c
   few-b : FewOnSide (features_of m i).b
   few-b = (accepted-few-features m e i h).b
 
-  module _ (sides : List (List ℕ)) (agree : Agrees sides (side_table m)) where
-    side-row : (j : ℕ) → j < 2 → get_or sides (2 * i + j) [] ≡ get_or (pair_sides m.parts m.outlines (pair_at m.pairs i) i) j []
-    side-row j l = row_read (λ k. pair_sides m.parts m.outlines (pair_at m.pairs k) k) 2 m.pairs.count (λ k. refl) sides agree i j h l
+  module _ (t : TableRows) (agree : Agrees t.sides (side_table m)) where
+    side-row : (j : ℕ) → j < 2 → get_or t.sides (2 * i + j) [] ≡ get_or (pair_sides m.parts m.outlines (pair_at m.pairs i) i) j []
+    side-row j l = row_read (λ k. pair_sides m.parts m.outlines (pair_at m.pairs k) k) 2 m.pairs.count (λ k. refl) t.sides agree i j h l
 
-    pub side-a : side_at sides (row_a i) ≡ facts_of (2 * i) (pair_at m.pairs i).geometry (features_of m i).a
+    pub side-a : side_at t (row_a i) ≡ facts_of (2 * i) (pair_at m.pairs i).geometry (features_of m i).a
     side-a =
         let l = i_small in
         let x = few-a.faces in
         let y = few-a.discs in
         let z : row_a i ≡ 2 * i + 0 = row-a-is i (omega (arith, l)) ∙ sym (add-zero (2 * i)) in
-        ap facts_from (ap (λ (k : ℕ). get_or sides k []) z ∙ side-row 0 (omega arith)) ∙ facts_back (2 * i) (pair_at m.pairs i).geometry (features_of m i).a (omega (arith, l)) x (omega (arith, y))
+        ap facts_from (ap (λ (k : ℕ). get_or t.sides k []) z ∙ side-row 0 (omega arith)) ∙ facts_back (2 * i) (pair_at m.pairs i).geometry (features_of m i).a (omega (arith, l)) x (omega (arith, y))
 
-    pub side-b : side_at sides (row_b i) ≡ facts_of (2 * i + 1) (pair_at m.pairs i).geometry (features_of m i).b
+    pub side-b : side_at t (row_b i) ≡ facts_of (2 * i + 1) (pair_at m.pairs i).geometry (features_of m i).b
     side-b =
         let l = i_small in
         let x = few-b.faces in
         let y = few-b.discs in
-        ap facts_from (ap (λ (k : ℕ). get_or sides k []) (row-b-is i (omega (arith, l))) ∙ side-row 1 (omega arith)) ∙ facts_back (2 * i + 1) (pair_at m.pairs i).geometry (features_of m i).b (omega (arith, l)) x (omega (arith, y))
+        ap facts_from (ap (λ (k : ℕ). get_or t.sides k []) (row-b-is i (omega (arith, l))) ∙ side-row 1 (omega arith))
+        ∙ facts_back (2 * i + 1) (pair_at m.pairs i).geometry (features_of m i).b (omega (arith, l)) x (omega (arith, y))
 
-    pub geometry_a : (side_at sides (row_a i)).geometry ≡ geometry_of (pair_at m.pairs i).geometry
+    pub geometry_a : (side_at t (row_a i)).geometry ≡ geometry_of (pair_at m.pairs i).geometry
     geometry_a = ap (λ (s : SideFacts). s.geometry) side-a
 
-  module _ (centers : List (List Float)) (agree : Agrees centers (center_table m)) where
-    center_row : (j : ℕ) → j < 2 → get_or centers (2 * i + j) [] ≡ get_or (pair_centers m.parts m.outlines (pair_at m.pairs i)) j []
-    center_row j l = row_read (λ k. pair_centers m.parts m.outlines (pair_at m.pairs k)) 2 m.pairs.count (λ k. refl) centers agree i j h l
+  module _ (t : TableRows) (agree : Agrees t.centers (center_table m)) where
+    center_row : (j : ℕ) → j < 2 → get_or t.centers (2 * i + j) [] ≡ get_or (pair_centers m.parts m.outlines (pair_at m.pairs i)) j []
+    center_row j l = row_read (λ k. pair_centers m.parts m.outlines (pair_at m.pairs k)) 2 m.pairs.count (λ k. refl) t.centers agree i j h l
 
-    pub center_a : point_at centers (row_a i) ≡ (features_of m i).a.center.point
+    pub center_a : center_at t (row_a i) ≡ (features_of m i).a.center.point
     center_a =
         let l = i_small in
         let z : row_a i ≡ 2 * i + 0 = row-a-is i (omega (arith, l)) ∙ sym (add-zero (2 * i)) in
-        ap point_from (ap (λ (k : ℕ). get_or centers k []) z ∙ center_row 0 (omega arith))
+        ap point_from (ap (λ (k : ℕ). get_or t.centers k []) z ∙ center_row 0 (omega arith))
 
-    pub center_b : point_at centers (row_b i) ≡ (features_of m i).b.center.point
+    pub center_b : center_at t (row_b i) ≡ (features_of m i).b.center.point
     center_b =
         let l = i_small in
-        ap point_from (ap (λ (k : ℕ). get_or centers k []) (row-b-is i (omega (arith, l))) ∙ center_row 1 (omega arith))
+        ap point_from (ap (λ (k : ℕ). get_or t.centers k []) (row-b-is i (omega (arith, l))) ∙ center_row 1 (omega arith))
 
-  module _ (faces : List (List Float)) (fnames : List (List ℕ)) (discs : List (List Float)) (dnames : List (List ℕ)) (agree-f : Agrees faces (face_table m)) (agree-n : Agrees fnames (face_name_table m)) (agree-d : Agrees discs (disc_table m)) (agree-m : Agrees dnames (disc_name_table m)) where
-    rows-a : SideRows faces fnames discs dnames (2 * i) (features_of m i).a
+  module _ (t : TableRows) (agree-f : Agrees t.faces (face_table m)) (agree-n : Agrees t.fnames (face_name_table m))
+      (agree-d : Agrees t.discs (disc_table m)) (agree-m : Agrees t.dnames (disc_name_table m)) where
+    rows-a : SideRows t (2 * i) (features_of m i).a
     rows-a = record {
-      face = λ j l. row-a (λ q. face_row q.face) (λ s. s.face) (features_of m) 12 m.pairs.count (λ k. faces_a m.parts m.outlines (pair_at m.pairs k)) (λ k. faces_b m.parts m.outlines (pair_at m.pairs k)) faces agree-f i j h l;
-      fname = λ j l. row-a (λ q. piece_row q.piece) (λ s. s.face) (features_of m) 12 m.pairs.count (λ k. faces_a m.parts m.outlines (pair_at m.pairs k)) (λ k. faces_b m.parts m.outlines (pair_at m.pairs k)) fnames agree-n i j h l;
-      disc = λ j l. row-a (λ q. disc_row q.disc) (λ s. s.disc) (features_of m) 28 m.pairs.count (λ k. discs_a m.parts m.outlines (pair_at m.pairs k)) (λ k. discs_b m.parts m.outlines (pair_at m.pairs k)) discs agree-d i j h l;
-      dname = λ j l. row-a (λ q. piece_row q.piece) (λ s. s.disc) (features_of m) 28 m.pairs.count (λ k. discs_a m.parts m.outlines (pair_at m.pairs k)) (λ k. discs_b m.parts m.outlines (pair_at m.pairs k)) dnames agree-m i j h l;
+      face = λ j l. row-a (λ q. face_row q.face) (λ s. s.face) (features_of m) 12 m.pairs.count (faces-long-a m) (faces-long-b m) t.faces agree-f i j h l;
+      fname = λ j l. row-a (λ q. piece_row q.piece) (λ s. s.face) (features_of m) 12 m.pairs.count (faces-long-a m) (faces-long-b m) t.fnames agree-n i j h l;
+      disc = λ j l. row-a (λ q. disc_row q.disc) (λ s. s.disc) (features_of m) 28 m.pairs.count (discs-long-a m) (discs-long-b m) t.discs agree-d i j h l;
+      dname = λ j l. row-a (λ q. piece_row q.piece) (λ s. s.disc) (features_of m) 28 m.pairs.count (discs-long-a m) (discs-long-b m) t.dnames agree-m i j h l;
     }
 
-    rows-b : SideRows faces fnames discs dnames (2 * i + 1) (features_of m i).b
+    rows-b : SideRows t (2 * i + 1) (features_of m i).b
     rows-b = record {
-      face = λ j l. row-b (λ q. face_row q.face) (λ s. s.face) (features_of m) 12 m.pairs.count (λ k. faces_a m.parts m.outlines (pair_at m.pairs k)) (λ k. faces_b m.parts m.outlines (pair_at m.pairs k)) faces agree-f i j h l;
-      fname = λ j l. row-b (λ q. piece_row q.piece) (λ s. s.face) (features_of m) 12 m.pairs.count (λ k. faces_a m.parts m.outlines (pair_at m.pairs k)) (λ k. faces_b m.parts m.outlines (pair_at m.pairs k)) fnames agree-n i j h l;
-      disc = λ j l. row-b (λ q. disc_row q.disc) (λ s. s.disc) (features_of m) 28 m.pairs.count (λ k. discs_a m.parts m.outlines (pair_at m.pairs k)) (λ k. discs_b m.parts m.outlines (pair_at m.pairs k)) discs agree-d i j h l;
-      dname = λ j l. row-b (λ q. piece_row q.piece) (λ s. s.disc) (features_of m) 28 m.pairs.count (λ k. discs_a m.parts m.outlines (pair_at m.pairs k)) (λ k. discs_b m.parts m.outlines (pair_at m.pairs k)) dnames agree-m i j h l;
+      face = λ j l. row-b (λ q. face_row q.face) (λ s. s.face) (features_of m) 12 m.pairs.count (faces-long-a m) (faces-long-b m) t.faces agree-f i j h l;
+      fname = λ j l. row-b (λ q. piece_row q.piece) (λ s. s.face) (features_of m) 12 m.pairs.count (faces-long-a m) (faces-long-b m) t.fnames agree-n i j h l;
+      disc = λ j l. row-b (λ q. disc_row q.disc) (λ s. s.disc) (features_of m) 28 m.pairs.count (discs-long-a m) (discs-long-b m) t.discs agree-d i j h l;
+      dname = λ j l. row-b (λ q. piece_row q.piece) (λ s. s.disc) (features_of m) 28 m.pairs.count (discs-long-a m) (discs-long-b m) t.dnames agree-m i j h l;
     }
 
-    module _ (sides : List (List ℕ)) (centers : List (List Float)) (agree-s : Agrees sides (side_table m)) (agree-c : Agrees centers (center_table m)) where
-      pub side-in_a : side_in faces fnames discs dnames sides centers (row_a i) ≡ (features_of m i).a
+    module _ (agree-s : Agrees t.sides (side_table m)) (agree-c : Agrees t.centers (center_table m)) where
+      pub side-in_a : side_in t (row_a i) ≡ (features_of m i).a
       unfolding pair_features
-      side-in_a = side-back faces fnames discs dnames sides centers (row_a i) (2 * i) (pair_at m.pairs i).geometry m.parts m.outlines (pair_at m.pairs i).a false few-a rows-a (side-a sides agree-s) (center_a centers agree-c)
+      side-in_a = side-back t (row_a i) (2 * i) (pair_at m.pairs i).geometry m.parts m.outlines (pair_at m.pairs i).a false few-a rows-a (side-a t agree-s) (center_a t agree-c)
 
-      pub side-in_b : side_in faces fnames discs dnames sides centers (row_b i) ≡ (features_of m i).b
+      pub side-in_b : side_in t (row_b i) ≡ (features_of m i).b
       unfolding pair_features
-      side-in_b = side-back faces fnames discs dnames sides centers (row_b i) (2 * i + 1) (pair_at m.pairs i).geometry m.parts m.outlines (pair_at m.pairs i).b (center_of_b (pair_at m.pairs i).geometry) few-b rows-b (side-b sides agree-s) (center_b centers agree-c)
+      side-in_b = side-back t (row_b i) (2 * i + 1) (pair_at m.pairs i).geometry m.parts m.outlines (pair_at m.pairs i).b (center_of_b (pair_at m.pairs i).geometry)
+          few-b rows-b (side-b t agree-s) (center_b t agree-c)
 
       -- the features of a pair, read from the tables
-      pub pair-in : pair_in faces fnames discs dnames sides centers i ≡ features_of m i
+      pub pair-in : pair_in t i ≡ features_of m i
       unfolding pair_in
       pair-in = ap₂ (λ (a b : SideFeatures). record { a = a; b = b }) side-in_a side-in_b
 
-  module _ (choices : List (List ℕ)) (agree : Agrees choices (choice_table m)) where
-    choice_row : (j n : ℕ) → j < 4 → n ≡ 4 * i + j → (r : List ℕ) → get_or (pair_choices m.parts m.outlines (pair_at m.pairs i)) j [] ≡ r → 0 < length r → choice_at choices n ≡ record { what = r }
+  module _ (t : TableRows) (agree : Agrees t.choices (choice_table m)) where
+    choice_row : (j n : ℕ) → j < 4 → n ≡ 4 * i + j → (r : List ℕ) → get_or (pair_choices m.parts (pair_at m.pairs i)) j [] ≡ r → 0 < length r → choice_at t n ≡ record { what = r }
     choice_row j n l z r q s =
         ap (λ (x : List ℕ). record { what = x })
-        (row-there choices n (replicate 32 0) r s
-        (ap (λ (k : ℕ). get_or choices k []) z ∙ row_read (λ k. pair_choices m.parts m.outlines (pair_at m.pairs k)) 4 m.pairs.count (λ k. refl) choices agree i j h l ∙ q))
+        (row-there t.choices n (replicate 32 0) r s
+        (ap (λ (k : ℕ). get_or t.choices k []) z ∙ row_read (λ k. pair_choices m.parts (pair_at m.pairs k)) 4 m.pairs.count (λ k. refl) t.choices agree i j h l ∙ q))
 
     material_row : (k n : ℕ) → n ≡ k → k ≤ 33 → row_of_material n ≡ 2 * k
     material_row k n p q = ap (λ (x : ℕ). 2 * at_most x 33) p ∙ ap (λ (x : ℕ). 2 * x) (at-most_is k 33 q)
@@ -270,14 +302,14 @@ module _ (m : Mechanism) (e : check_of m ≡ Ok tt) (i : ℕ) (h : i < m.pairs.c
     at_b : row_of_material (row_b i) ≡ 4 * i + 2
     at_b = let l = i_small in omega (arith, material_row (2 * i + 1) (row_b i) (row-b-is i (omega (arith, l))) (omega (arith, l)))
 
-    pub material_a : choice_at choices (row_of_material (row_a i)) ≡ side_chosen m.parts (pair_at m.pairs i).a (cuts_of m i)
+    pub material_a : choice_at t (row_of_material (row_a i)) ≡ side_chosen m.parts (pair_at m.pairs i).a (cuts_of m i)
     material_a = choice_row 0 (row_of_material (row_a i)) (omega arith) (omega (arith, at_a)) (side_chosen m.parts (pair_at m.pairs i).a (cuts_of m i)).what refl (chosen-long (pair_at m.pairs i).a)
 
-    pub material_b : choice_at choices (row_of_material (row_b i)) ≡ side_chosen m.parts (pair_at m.pairs i).b (cuts_of m i)
+    pub material_b : choice_at t (row_of_material (row_b i)) ≡ side_chosen m.parts (pair_at m.pairs i).b (cuts_of m i)
     material_b = choice_row 2 (row_of_material (row_b i)) (omega arith) at_b (side_chosen m.parts (pair_at m.pairs i).b (cuts_of m i)).what refl (chosen-long (pair_at m.pairs i).b)
 
-    pub sampled_a : choice_at choices (row_of_sampled (row_a i)) ≡ record { what = sampled_row m.parts (pair_at m.pairs i).a }
+    pub sampled_a : choice_at t (row_of_sampled (row_a i)) ≡ record { what = sampled_row m.parts (pair_at m.pairs i).a }
     sampled_a = choice_row 1 (row_of_sampled (row_a i)) (omega arith) (omega (arith, at_a)) (sampled_row m.parts (pair_at m.pairs i).a) refl (sampled_long (pair_at m.pairs i).a)
 
-    pub sampled_b : choice_at choices (row_of_sampled (row_b i)) ≡ record { what = sampled_row m.parts (pair_at m.pairs i).b }
+    pub sampled_b : choice_at t (row_of_sampled (row_b i)) ≡ record { what = sampled_row m.parts (pair_at m.pairs i).b }
     sampled_b = choice_row 3 (row_of_sampled (row_b i)) (omega arith) (omega (arith, at_b)) (sampled_row m.parts (pair_at m.pairs i).b) refl (sampled_long (pair_at m.pairs i).b)

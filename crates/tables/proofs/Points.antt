@@ -26,10 +26,10 @@ use Rattle.mechanism.specs.declared.Parts.{Parts}
 use Rattle.mechanism.specs.declared.pair.Surface.{Surface}
 use Rattle.bodies.specs.declared.pose.Pose.{Pose}
 use Rattle.silhouette.specs.Silhouette.{silhouette_at}
-use Rattle.strips.specs.Strips.{at_most, part_from, part_at, point_from, point_at}
+use Rattle.strips.specs.Strips.{TableRows, at_most, part_from, part_at, point_from, sampled_at}
 use Rattle.strips.specs.declared.PartFacts.{PartFacts}
 use Rattle.drawing.specs.Drawing.{is_sampled, placed_of, polygon_of, side_material, chosen_as, chosen_material, side_chosen, row_of}
-use Rattle.drawing.specs.Prepared.{parts_in, drawn_in, all_drawn, polygon_in, material_in, material_or}
+use Rattle.drawing.specs.Prepared.{parts_in, drawn_in, all_drawn, polygon_in, polygons_in, material_in, material_or}
 use Rattle.drawing.specs.Samples.{mouths_of, samples_of, part_samples}
 use Rattle.drawing.specs.declared.Chosen.{Chosen}
 use Rattle.drawing.proofs.Laid.{side-chosen}
@@ -41,6 +41,9 @@ pub sets-agrees : {A : Type 0} (out t : List (List A)) → length t ≤ length o
 sets-agrees {A} out t h i k = sym (get_or-take (length t) (sets out 0 t) i [] k) ∙ ap (λ (l : List (List A)). get_or l i []) (sets-taken t out (length t) refl h)
 
 -- ---- points read back
+abbrev point_at : List (List Float) → ℕ → Point
+point_at l i = point_from (get_or l i [])
+
 pub point-read : (l : List (List Float)) (ps : List Point) → Agrees l (map row_of ps) → (i : ℕ) → i < length ps → point_at l i ≡ get_or ps i no_point
 point-read l ps a i h =
     let m = length-map ps row_of in
@@ -89,11 +92,12 @@ module _ (ps : Parts) (o : Outlines) where
   row_at : (i : ℕ) → i < ps.count → get_or (part_table ps o) i [] ≡ part_row ps o i
   row_at i h = list_get (part_row ps o) [] ps.count 0 i h ∙ ap (part_row ps o) (zero-add i)
 
-  module _ (few : FewParts ps) where
-    pub parts-in : parts_in (part_table ps o) ≡ ps.count
-    parts-in = ap (λ (n : ℕ). at_most n 32) table_long ∙ at-most_is ps.count 32 few.count
+  -- tables in which those of the parts stand, with nothing behind them
+  module _ (few : FewParts ps) (t : TableRows) (stands : t.parts ≡ part_table ps o) where
+    pub parts-in : parts_in t ≡ ps.count
+    parts-in = ap (λ (l : List (List ℕ)). at_most (length l) 32) stands ∙ ap (λ (n : ℕ). at_most n 32) table_long ∙ at-most_is ps.count 32 few.count
 
-    pub part-read : (i : ℕ) → i < ps.count → part_at (part_table ps o) i ≡ facts_of i
+    pub part-read : (i : ℕ) → i < ps.count → part_at t i ≡ facts_of i
     part-read i h =
         let b = (Rattle.mechanism.specs.Description.part_at ps i).body in
         let a = length (drawn_up_to ps o i) in
@@ -102,35 +106,36 @@ module _ (ps : Parts) (o : Outlines) where
         let m = length (sampled_of ps o i) in
         let d = drawn-start ps o few i h in
         let e = sampled_start ps o few i h in
-        ap part_from (row_at i h)
+        ap (λ (l : List (List ℕ)). part_from (get_or l i [])) stands
+        ∙ ap part_from (row_at i h)
         ∙ ap₂ (λ (x y : ℕ). made b x y (at_most s 65535) (at_most m 1598)) (at-most_is a 65535 (omega (arith, d))) (at-most_is n 752 (drawn-752 ps o i))
         ∙ ap₂ (λ (x y : ℕ). made b a n x y) (at-most_is s 65535 (omega (arith, e))) (at-most_is m 1598 (sampled_1598 ps o i))
       where
         made : ℕ → ℕ → ℕ → ℕ → ℕ → PartFacts
         made b x y z w = record { body = b; drawn = x; points = y; sampled = z; samples = w }
 
-    pub all-drawn : all_drawn (part_table ps o) ≤ 6144
+    pub all-drawn : all_drawn t ≤ 6144
     all-drawn =
-        let e = ap (λ (n : ℕ). sum_in (drawn_in (part_table ps o)) n 0) parts-in in
-        let f = sum_same (drawn_in (part_table ps o)) (λ i. length (drawn_of ps o i)) ps.count (λ i h. ap (λ (x : PartFacts). x.points) (part-read i h)) in
+        let e = ap (λ (n : ℕ). sum_in (drawn_in t) n 0) parts-in in
+        let f = sum_same (drawn_in t) (λ i. length (drawn_of ps o i)) ps.count (λ i h. ap (λ (x : PartFacts). x.points) (part-read i h)) in
         let s = sum-scaled 16 (λ i. length (drawn_of ps o i)) (segs_of ps) (drawn-each ps o) ps.count 0 in
-        let t = few.total in
-        omega (arith, e, f, s, t)
+        let k = few.total in
+        omega (arith, e, f, s, k)
 
     -- ---- a part's polygon and its samples
-    module _ (q : Pose) (i : ℕ) (h : i < ps.count) (l : List (List Float)) where
-      pub polygon_read : Agrees l (drawn_table ps o) → polygon_in l (part_table ps o) q i ≡ polygon_of ps o q i
+    module _ (q : Pose) (i : ℕ) (h : i < ps.count) where
+      pub polygon_read : Agrees t.drawn (drawn_table ps o) → polygon_in t q i ≡ polygon_of ps o q i
       unfolding polygon_in polygon_of drawn_of
       polygon_read a =
-          ap (λ (x : PartFacts). map (world_of (placement_at q x.body)) (list_in (point_at l) x.points x.drawn)) (part-read i h)
-          ∙ ap (map (world_of (placed_of ps q i))) (points_read (drawn_of ps o) i ps.count h l a)
+          ap (λ (x : PartFacts). map (world_of (placement_at q x.body)) (list_in (point_at t.drawn) x.points x.drawn)) (part-read i h)
+          ∙ ap (map (world_of (placed_of ps q i))) (points_read (drawn_of ps o) i ps.count h t.drawn a)
 
-      pub samples_read : Agrees l (sampled_table ps o) → is_sampled (Rattle.mechanism.specs.Description.part_at ps i) ≡ true
-          → map (world_of (placement_at q (part_at (part_table ps o) i).body)) (list_in (point_at l) (part_at (part_table ps o) i).samples (part_at (part_table ps o) i).sampled) ≡ part_samples ps o q (mouths_of ps o) i
+      pub samples_read : Agrees t.sampled (sampled_table ps o) → is_sampled (Rattle.mechanism.specs.Description.part_at ps i) ≡ true
+          → map (world_of (placement_at q (part_at t i).body)) (list_in (sampled_at t) (part_at t i).samples (part_at t i).sampled) ≡ part_samples ps o q (mouths_of ps o) i
       unfolding part_samples sampled_of
-      samples_read a t =
-          ap (λ (x : PartFacts). map (world_of (placement_at q x.body)) (list_in (point_at l) x.samples x.sampled)) (part-read i h)
-          ∙ ap (map (world_of (placed_of ps q i))) (points_read (sampled_of ps o) i ps.count h l a ∙ cond_yes (flat (samples_of (mouths_of ps o)) (silhouette_at ps o i)) [] t)
+      samples_read a k =
+          ap (λ (x : PartFacts). map (world_of (placement_at q x.body)) (list_in (point_at t.sampled) x.samples x.sampled)) (part-read i h)
+          ∙ ap (map (world_of (placed_of ps q i))) (points_read (sampled_of ps o) i ps.count h t.sampled a ∙ cond_yes (flat (samples_of (mouths_of ps o)) (silhouette_at ps o i)) [] k)
 
 -- ---- the material of a side
 map-chosen : (f g : ℕ → List Point) (p : ℕ → Bool) (k j : ℕ) → ((i : ℕ) → i < j + k → f i ≡ g i) → map f (filter_in p k j) ≡ map g (filter_in p k j)
@@ -138,21 +143,22 @@ unfolding filter_in
 map-chosen f g p zero j e = refl
 map-chosen f g p (suc k) j e = go (p j) (e j (omega arith)) (map-chosen f g p k (suc j) (λ i h. e i (omega arith)))
   where
-    go : (b : Bool) → f j ≡ g j → map f (filter_in p k (suc j)) ≡ map g (filter_in p k (suc j)) → map f (cond b (j ∷ filter_in p k (suc j)) (filter_in p k (suc j))) ≡ map g (cond b (j ∷ filter_in p k (suc j)) (filter_in p k (suc j)))
+    go : (b : Bool) → f j ≡ g j → map f (filter_in p k (suc j)) ≡ map g (filter_in p k (suc j))
+        → map f (cond b (j ∷ filter_in p k (suc j)) (filter_in p k (suc j))) ≡ map g (cond b (j ∷ filter_in p k (suc j)) (filter_in p k (suc j)))
     go true x r = ap₂ (λ (y : List Point) (z : List (List Point)). y ∷ z) x r
     go false x r = r
 
-module _ (ps : Parts) (o : Outlines) (few : FewParts ps) (q : Pose) (drawn : List (List Float)) (a : Agrees drawn (drawn_table ps o)) where
-  polygons_read : (p : ℕ → Bool) → map (polygon_in drawn (part_table ps o) q) (filter_in p (parts_in (part_table ps o)) 0) ≡ map (polygon_of ps o q) (filter_in p ps.count 0)
+module _ (ps : Parts) (o : Outlines) (few : FewParts ps) (t : TableRows) (stands : t.parts ≡ part_table ps o) (q : Pose) (a : Agrees t.drawn (drawn_table ps o)) where
+  polygons_read : (p : ℕ → Bool) → polygons_in t q p ≡ map (polygon_of ps o q) (filter_in p ps.count 0)
   polygons_read p =
-      ap (λ (n : ℕ). map (polygon_in drawn (part_table ps o) q) (filter_in p n 0)) (parts-in ps o few)
-      ∙ map-chosen (polygon_in drawn (part_table ps o) q) (polygon_of ps o q) p ps.count 0 (λ i h. polygon_read ps o few q i (omega arith) drawn a)
+      ap (λ (n : ℕ). map (polygon_in t q) (filter_in p n 0)) (parts-in ps o few t stands)
+      ∙ map-chosen (polygon_in t q) (polygon_of ps o q) p ps.count 0 (λ i h. polygon_read ps o few t stands q i (omega arith) a)
 
-  pub material_read : (c : Chosen) → material_or drawn (part_table ps o) q c ≡ chosen_material ps o q c
+  pub material_read : (c : Chosen) → material_or t q c ≡ chosen_material ps o q c
   unfolding material_in chosen_material
   material_read c =
-      cond_yes _ _ (le-leb (all_drawn (part_table ps o)) 6144 (all-drawn ps o few))
+      cond_yes _ _ (le-leb (all_drawn t) 6144 (all-drawn ps o few t stands))
       ∙ ap₂ (λ (x y : List (List Point)). record { solids = x; cuts = y }) (polygons_read (chosen_as c 1)) (polygons_read (chosen_as c 2))
 
-  pub side-read : (u : Surface) (cuts : Bool) → material_or drawn (part_table ps o) q (side_chosen ps u cuts) ≡ side_material ps o q u cuts
+  pub side-read : (u : Surface) (cuts : Bool) → material_or t q (side_chosen ps u cuts) ≡ side_material ps o q u cuts
   side-read u cuts = material_read (side_chosen ps u cuts) ∙ side-chosen ps o q u cuts few.count

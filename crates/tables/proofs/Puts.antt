@@ -8,7 +8,7 @@ use mathlib.Core.Bool.{Bool, true, false, cond}
 use mathlib.Core.List.{List, [], ◌∷◌, ◌++◌, map, map-append, append-nil}
 use lib.Ieee.{Float}
 use lib.ListN.{length, get_or, set, length-map, length-append}
-use lib.Seq.{sets, length-sets}
+use lib.Seq.{sets}
 use Rattle.laws.specs.Lists.{list_in, flat}
 use Rattle.laws.proofs.Choice.{cond_yes, cond_no}
 use Rattle.laws.proofs.Lists.{list_turn, flat_append, flat-short, list_length}
@@ -29,7 +29,8 @@ use Rattle.drawing.specs.Drawing.{is_sampled, drawn_points, row_of}
 use Rattle.drawing.specs.Samples.{on_line, sample_points, mouths_of, samples_of}
 use Rattle.drawing.proofs.Segments.{Places, places_more, places_end, drawn-short, silhouette_short, silhouette_94, part-within, part-counted}
 use Rattle.drawing.proofs.Mouths.{of-line, samples_short}
-use Rattle.tables.specs.Tables.{up_to, drawn_of, sampled_of, drawn_up_to, sampled_up_to, part_row, drawn_table, sampled_table, part_table}
+use Rattle.tables.specs.Tables.{up_to, drawn_of, sampled_of, drawn_up_to, sampled_up_to, part_row, with_points, with_parts}
+use Rattle.tables.specs.declared.Arrays.{Arrays}
 use Rattle.tables.specs.declared.Next.{Next}
 
 -- ---- points that are placed nowhere
@@ -169,7 +170,8 @@ module _ (ps : Parts) (o : Outlines) where
         ap₂ (λ (x : List Edge) (l : List Seg). flat (samples_of x) l) m e ∙ sym (cond_yes _ _ (sym t ∙ y)) in
         (w.0 ∙ ap (λ (l : List Point). at + length l) k, w.1 ∙ ap (λ (l : List Point). sets out₀ at (map row_of l)) k)
 
-  pub of_none : (i at : ℕ) (out : List (List Float)) {t : Bool} → t ≡ is_sampled (part_at ps i) → t ≡ false → (at ≡ at + length (sampled_of ps o i)) × (out ≡ sets out at (map row_of (sampled_of ps o i)))
+  pub of_none : (i at : ℕ) (out : List (List Float)) {t : Bool}
+      → t ≡ is_sampled (part_at ps i) → t ≡ false → (at ≡ at + length (sampled_of ps o i)) × (out ≡ sets out at (map row_of (sampled_of ps o i)))
   unfolding sampled_of
   of_none i at out t n =
       let k : [] ≡ cond (is_sampled (part_at ps i)) (flat (samples_of (mouths_of ps o)) (silhouette_at ps o i)) [] = sym (cond_no _ _ (sym t ∙ n)) in
@@ -183,14 +185,16 @@ module _ (rows : List (List Float)) (ps : Parts) {i first : ℕ} (few : FewParts
   within-rows : first + segs_of ps i ≤ length rows
   within-rows = let l = rows_long rows in let w = part-within ps (outlines_in rows) i few h e in_rows in omega (arith, w, l)
 
-  pub asks_drawn : {at n : ℕ} → at ≡ length (drawn_up_to ps (outlines_in rows) i) → 6144 ≤ n → (segs_of ps i ≤ 48) × (first + segs_of ps i ≤ length rows) × (at + 8 * silhouette_count (part_at ps i) ≤ n)
+  pub asks_drawn : {at n : ℕ} → at ≡ length (drawn_up_to ps (outlines_in rows) i) → 6144 ≤ n
+      → (segs_of ps i ≤ 48) × (first + segs_of ps i ≤ length rows) × (at + 8 * silhouette_count (part_at ps i) ≤ n)
   asks_drawn a l =
       let b = part-counted ps (outlines_in rows) i few h e in_rows in
       let w = up-within (drawn_of ps (outlines_in rows)) 16 (segs_of ps) (drawn-each ps (outlines_in rows)) i in
       let t = few.all i h in
       (few.each i h, within-rows, omega (arith, b, w, t, a, l))
 
-  pub asks_sampled : {at n : ℕ} → at ≡ length (sampled_up_to ps (outlines_in rows) i) → 13056 ≤ n → (segs_of ps i ≤ 48) × (first + segs_of ps i ≤ length rows) × (at + 17 * silhouette_count (part_at ps i) ≤ n)
+  pub asks_sampled : {at n : ℕ} → at ≡ length (sampled_up_to ps (outlines_in rows) i) → 13056 ≤ n
+      → (segs_of ps i ≤ 48) × (first + segs_of ps i ≤ length rows) × (at + 17 * silhouette_count (part_at ps i) ≤ n)
   asks_sampled a l =
       let b = part-counted ps (outlines_in rows) i few h e in_rows in
       let w = up-within (sampled_of ps (outlines_in rows)) 34 (segs_of ps) (sampled_each ps (outlines_in rows)) i in
@@ -201,7 +205,8 @@ module _ (rows : List (List Float)) (ps : Parts) {i first : ℕ} (few : FewParts
 pub behind : {A : Type 0} (l xs ys : List A) (n : ℕ) → n ≡ length xs → sets (sets l 0 xs) n ys ≡ sets l 0 (xs ++ ys)
 behind l xs ys n e = ap (λ (k : ℕ). sets (sets l 0 xs) k ys) (e ∙ sym (zero-add (length xs))) ∙ sym (sets-append xs ys l 0)
 
-pub rows_behind : (f : ℕ → List Point) (i : ℕ) (l : List (List Float)) {n : ℕ} {m m' : List (List Float)} → n ≡ length (flat f (up_to i)) → m ≡ sets l 0 (map row_of (flat f (up_to i))) → m' ≡ sets m n (map row_of (f i))
+pub rows_behind : (f : ℕ → List Point) (i : ℕ) (l : List (List Float)) {n : ℕ} {m m' : List (List Float)}
+    → n ≡ length (flat f (up_to i)) → m ≡ sets l 0 (map row_of (flat f (up_to i))) → m' ≡ sets m n (map row_of (f i))
     → m' ≡ sets l 0 (map row_of (flat f (up_to (i + 1))))
 rows_behind f i l {n} e a b =
     b ∙ ap (λ (k : List (List Float)). sets k n (map row_of (f i))) a
@@ -213,57 +218,55 @@ row-behind f i l a e =
     ap₂ (λ (k : List (List ℕ)) (r : List ℕ). set k i r) a e ∙ behind l (list_in f i 0) (f i ∷ []) i (sym (list_length f i 0)) ∙ ap (sets l 0) (sym (list_more f i))
 
 -- ---- the points and the row of each part that a loop writes: those of the first i parts are there
-module _ (ps : Parts) (o : Outlines) (drawn₀ sampled₀ : List (List Float)) (parts₀ : List (List ℕ)) where
-  pub record Puts (drawn sampled : List (List Float)) (parts : List (List ℕ)) (at : Next) (i : ℕ) : Type 0 where
+module _ (ps : Parts) (o : Outlines) (a₀ : Arrays) where
+  -- the arrays with those of the first i parts
+  abbrev pub up_to_part : ℕ → Arrays
+  up_to_part i = record a₀ {
+    drawn = sets a₀.drawn 0 (map row_of (drawn_up_to ps o i));
+    sampled = sets a₀.sampled 0 (map row_of (sampled_up_to ps o i));
+    parts = sets a₀.parts 0 (list_in (part_row ps o) i 0);
+  }
+
+  pub record Puts (a : Arrays) (at : Next) (i : ℕ) : Type 0 where
     pub far : i ≤ ps.count
     pub at_drawn : at.drawn ≡ length (drawn_up_to ps o i)
     pub at_sampled : at.sampled ≡ length (sampled_up_to ps o i)
-    pub drawn_rows : drawn ≡ sets drawn₀ 0 (map row_of (drawn_up_to ps o i))
-    pub sampled_rows : sampled ≡ sets sampled₀ 0 (map row_of (sampled_up_to ps o i))
-    pub part_rows : parts ≡ sets parts₀ 0 (list_in (part_row ps o) i 0)
+    pub rows : a ≡ up_to_part i
 
-  pub puts-start : Puts drawn₀ sampled₀ parts₀ (record { drawn = 0; sampled = 0 }) 0
+  pub puts-start : Puts a₀ (record { drawn = 0; sampled = 0 }) 0
   unfolding flat list_in
-  puts-start = record { far = omega arith; at_drawn = refl; at_sampled = refl; drawn_rows = refl; sampled_rows = refl; part_rows = refl }
+  puts-start = record { far = omega arith; at_drawn = refl; at_sampled = refl; rows = refl }
 
-  module _ {drawn sampled : List (List Float)} {parts : List (List ℕ)} {at : Next} {i : ℕ} (p : Puts drawn sampled parts at i) where
-    pub drawn-long : length drawn ≡ length drawn₀
-    drawn-long = ap length p.drawn_rows ∙ length-sets drawn₀ 0 (map row_of (drawn_up_to ps o i))
-
-    pub sampled_long : length sampled ≡ length sampled₀
-    sampled_long = ap length p.sampled_rows ∙ length-sets sampled₀ 0 (map row_of (sampled_up_to ps o i))
-
-    pub parts-long : length parts ≡ length parts₀
-    parts-long = ap length p.part_rows ∙ length-sets parts₀ 0 (list_in (part_row ps o) i 0)
-
-    pub puts-more : {drawn' sampled' : List (List Float)} {to : Next} → i < ps.count
-        → (to.drawn ≡ at.drawn + length (drawn_of ps o i)) × (to.sampled ≡ at.sampled + length (sampled_of ps o i)) × (drawn' ≡ sets drawn at.drawn (map row_of (drawn_of ps o i))) × (sampled' ≡ sets sampled at.sampled (map row_of (sampled_of ps o i)))
-        → Puts drawn' sampled' (set parts i ((part_at ps i).body ∷ at.drawn ∷ (to.drawn - at.drawn) ∷ at.sampled ∷ (to.sampled - at.sampled) ∷ [])) to (i + 1)
-    puts-more {to = to} h w =
-        let a = p.at_drawn in
-        let b = p.at_sampled in
+  module _ {a : Arrays} {at : Next} {i : ℕ} (p : Puts a at i) where
+    pub puts-more : {b : Arrays} {to : Next} → i < ps.count
+        → (to.drawn ≡ at.drawn + length (drawn_of ps o i)) × (to.sampled ≡ at.sampled + length (sampled_of ps o i)) → b ≡ with_points a at (drawn_of ps o i) (sampled_of ps o i)
+        → Puts (record b { parts = set b.parts i ((part_at ps i).body ∷ at.drawn ∷ (to.drawn - at.drawn) ∷ at.sampled ∷ (to.sampled - at.sampled) ∷ []) }) to (i + 1)
+    puts-more {to = to} h w q =
+        let n = p.at_drawn in
+        let m = p.at_sampled in
         let c = w.0 in
         let d = w.1 in
         let e = length_up (drawn_of ps o) i in
         let f = length_up (sampled_of ps o) i in
         let g : to.drawn - at.drawn ≡ length (drawn_of ps o i) = omega (arith, c) in
         let k : to.sampled - at.sampled ≡ length (sampled_of ps o i) = omega (arith, d) in
+        let row : List ℕ = (part_at ps i).body ∷ at.drawn ∷ (to.drawn - at.drawn) ∷ at.sampled ∷ (to.sampled - at.sampled) ∷ [] in
         record {
           far = omega arith;
-          at_drawn = omega (arith, a, c, e);
-          at_sampled = omega (arith, b, d, f);
-          drawn_rows = rows_behind (drawn_of ps o) i drawn₀ a p.drawn_rows w.2;
-          sampled_rows = rows_behind (sampled_of ps o) i sampled₀ b p.sampled_rows w.3;
-          part_rows = row-behind (part_row ps o) i parts₀ p.part_rows
-              (ap₂ (λ (x y : ℕ). (part_at ps i).body ∷ x ∷ y ∷ at.sampled ∷ (to.sampled - at.sampled) ∷ []) a g
-              ∙ ap₂ (λ (x y : ℕ). (part_at ps i).body ∷ length (drawn_up_to ps o i) ∷ length (drawn_of ps o i) ∷ x ∷ y ∷ []) b k);
+          at_drawn = omega (arith, n, c, e);
+          at_sampled = omega (arith, m, d, f);
+          rows =
+              ap (λ (x : Arrays). record x { parts = set x.parts i row }) (q ∙ ap (λ (x : Arrays). with_points x at (drawn_of ps o i) (sampled_of ps o i)) p.rows)
+              ∙ ap₂ (λ (x y : List (List Float)). record a₀ { drawn = x; sampled = y; parts = set (up_to_part i).parts i row })
+              (rows_behind (drawn_of ps o) i a₀.drawn n refl refl) (rows_behind (sampled_of ps o) i a₀.sampled m refl refl)
+              ∙ ap (λ (x : List (List ℕ)). record (up_to_part (i + 1)) { parts = x })
+              (row-behind (part_row ps o) i a₀.parts refl
+              (ap₂ (λ (x y : ℕ). (part_at ps i).body ∷ x ∷ y ∷ at.sampled ∷ (to.sampled - at.sampled) ∷ []) n g
+              ∙ ap₂ (λ (x y : ℕ). (part_at ps i).body ∷ length (drawn_up_to ps o i) ∷ length (drawn_of ps o i) ∷ x ∷ y ∷ []) m k));
         }
 
-    pub puts-end : ps.count ≤ i → (drawn ≡ sets drawn₀ 0 (drawn_table ps o)) × (sampled ≡ sets sampled₀ 0 (sampled_table ps o)) × (parts ≡ sets parts₀ 0 (part_table ps o))
+    pub puts-end : ps.count ≤ i → a ≡ with_parts a₀ ps o
     puts-end h =
         let f = p.far in
-        let e : i ≡ ps.count = omega (arith, f, h) in (
-          p.drawn_rows ∙ ap (λ (n : ℕ). sets drawn₀ 0 (map row_of (drawn_up_to ps o n))) e,
-          p.sampled_rows ∙ ap (λ (n : ℕ). sets sampled₀ 0 (map row_of (sampled_up_to ps o n))) e,
-          p.part_rows ∙ ap (λ (n : ℕ). sets parts₀ 0 (list_in (part_row ps o) n 0)) e,
-        )
+        let e : i ≡ ps.count = omega (arith, f, h) in
+        p.rows ∙ ap up_to_part e

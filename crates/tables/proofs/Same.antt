@@ -24,7 +24,8 @@ use Rattle.material.specs.Material.{Edge}
 use Rattle.drawing.specs.Drawing.{is_sampled, drawn_points, row_of}
 use Rattle.drawing.specs.Samples.{samples_of}
 use Rattle.drawing.proofs.Same.{mouths-same}
-use Rattle.tables.specs.Tables.{up_to, drawn_of, sampled_of, drawn_up_to, sampled_up_to, part_row, drawn_table, sampled_table, part_table}
+use Rattle.tables.specs.Tables.{up_to, drawn_of, sampled_of, drawn_up_to, sampled_up_to, part_row, part_table, with_parts}
+use Rattle.tables.specs.declared.Arrays.{Arrays}
 
 module _ (ps : Parts) (o o' : Outlines) (same : (i : ℕ) → silhouette_at ps o i ≡ silhouette_at ps o' i) where
   drawn-of : (i : ℕ) → drawn_of ps o i ≡ drawn_of ps o' i
@@ -46,14 +47,12 @@ module _ (ps : Parts) (o o' : Outlines) (same : (i : ℕ) → silhouette_at ps o
       ap₂ (λ (x y : List Point). (part_at ps i).body ∷ length x ∷ length y ∷ length (sampled_up_to ps o i) ∷ length (sampled_of ps o i) ∷ []) (drawn-up i) (drawn-of i)
       ∙ ap₂ (λ (x y : List Point). (part_at ps i).body ∷ length (drawn_up_to ps o' i) ∷ length (drawn_of ps o' i) ∷ length x ∷ length y ∷ []) (sampled_up i) (sampled_of_lem i)
 
-  pub tables_same : (drawn₀ sampled₀ : List (List Float)) (parts₀ : List (List ℕ)) {drawn sampled : List (List Float)} {parts : List (List ℕ)}
-      → (drawn ≡ sets drawn₀ 0 (drawn_table ps o)) × (sampled ≡ sets sampled₀ 0 (sampled_table ps o)) × (parts ≡ sets parts₀ 0 (part_table ps o))
-      → (drawn ≡ sets drawn₀ 0 (drawn_table ps o')) × (sampled ≡ sets sampled₀ 0 (sampled_table ps o')) × (parts ≡ sets parts₀ 0 (part_table ps o'))
-  tables_same drawn₀ sampled₀ parts₀ w = (
-    w.0 ∙ ap (λ (l : List Point). sets drawn₀ 0 (map row_of l)) (drawn-up ps.count),
-    w.1 ∙ ap (λ (l : List Point). sets sampled₀ 0 (map row_of l)) (sampled_up ps.count),
-    w.2 ∙ ap (sets parts₀ 0) (list_same (part_row ps o) (part_row ps o') part-row ps.count 0),
-  )
+  pub tables_same : (a : Arrays) → with_parts a ps o ≡ with_parts a ps o'
+  tables_same a =
+      let made : List Point → List Point → List (List ℕ) → Arrays = λ x y z.
+      record a { drawn = sets a.drawn 0 (map row_of x); sampled = sets a.sampled 0 (map row_of y); parts = sets a.parts 0 z } in
+      ap₂ (λ (x y : List Point). made x y (part_table ps o)) (drawn-up ps.count) (sampled_up ps.count)
+      ∙ ap (made (drawn_up_to ps o' ps.count) (sampled_up_to ps o' ps.count)) (list_same (part_row ps o) (part_row ps o') part-row ps.count 0)
 
 -- ---- the arrays as they are before anything is put
 abbrev octets : List (List Float)

@@ -23,6 +23,7 @@ use Rattle.drawing.proofs.Segments.{first-row, next_row}
 use Rattle.sides.specs.declared.SideFeatures.{SideFeatures}
 use Rattle.sides.specs.declared.contacts.PairFeatures.{PairFeatures}
 use Rattle.tables.specs.Tables.{up_to}
+use Rattle.tables.specs.declared.Arrays.{Arrays}
 
 -- ---- The rows of an array of n elements, written from `at` on: those of the first i are there.
 pub record RowsPut {A B : Type 0} (n : ℕ) (g : B → A) (l : List B) (out₀ : List A) (at : ℕ) (out : List A) (i : ℕ) : Type 0 where
@@ -113,3 +114,32 @@ pair-join g part {f} {h} l {m} {r} {at} {a} {b} e p q x y =
     (q ∙ ap (λ (k : PairFeatures). sets m b (map g (part k.b))) e)
     x
     (y ∙ ap (λ (k : ℕ). at + k) (sym (length-map (part h.a) g)))
+
+-- ---- arrays that hold the same, field by field
+pub same_arrays : {a b : Arrays} → a.drawn ≡ b.drawn → a.sampled ≡ b.sampled → a.parts ≡ b.parts → a.faces ≡ b.faces → a.fnames ≡ b.fnames → a.discs ≡ b.discs → a.dnames ≡ b.dnames
+    → a.sides ≡ b.sides → a.centers ≡ b.centers → a.choices ≡ b.choices → a ≡ b
+same_arrays {a} {b} p₁ p₂ p₃ p₄ p₅ p₆ p₇ p₈ p₉ p₀ =
+    let e : record {
+      drawn = a.drawn;
+      sampled = a.sampled;
+      parts = a.parts;
+      faces = a.faces;
+      fnames = a.fnames;
+      discs = a.discs;
+      dnames = a.dnames;
+      sides = a.sides;
+      centers = a.centers;
+      choices = a.choices;
+    } ≡ record {
+      drawn = b.drawn;
+      sampled = b.sampled;
+      parts = b.parts;
+      faces = b.faces;
+      fnames = b.fnames;
+      discs = b.discs;
+      dnames = b.dnames;
+      sides = b.sides;
+      centers = b.centers;
+      choices = b.choices;
+    } = cc in
+    e

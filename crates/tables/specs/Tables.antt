@@ -1,7 +1,8 @@
 -- A description prepared for its readings: the rows of its tables. Definitions only.
-use Rattle.std.specs.Prelude.{ℕ, ◌+◌, ◌*◌, ◌<◌, ◌≡◌, Bool, true, false, cond, List, [], ◌∷◌, ◌++◌, map, length, get_or, Float, Ok, Err}
+use Rattle.std.specs.Prelude.{ℕ, ◌+◌, ◌*◌, ◌<◌, ◌≡◌, Bool, true, false, cond, List, [], ◌∷◌, ◌++◌, map, length, get_or, replicate, take, Float, Ok, Err}
 use Rattle.std.proofs.lemmas.List.Edits.{sets}
 use Rattle.laws.specs.Lists.{list_in, flat}
+use Rattle.ieee.specs.Consts.{zero_f}
 use Rattle.geometry.specs.declared.Point.{Point}
 use Rattle.mechanism.specs.Description.{part_at, pair_at}
 use Rattle.mechanism.specs.declared.Mechanism.{Mechanism}
@@ -17,7 +18,10 @@ use Rattle.drawing.specs.Drawing.{is_sampled, is_own, drawn_points, row_of, side
 use Rattle.drawing.specs.Samples.{mouths_of, samples_of}
 use Rattle.sides.specs.Contacts.{pair_features}
 use Rattle.sides.specs.declared.SideFeatures.{SideFeatures}
-use Rattle.strips.specs.Strips.{face_row, disc_row, piece_row}
+use Rattle.sides.specs.declared.contacts.PairFeatures.{PairFeatures}
+use Rattle.strips.specs.Strips.{TableRows, face_row, disc_row, piece_row}
+use Rattle.tables.specs.declared.Arrays.{Arrays}
+use Rattle.tables.specs.declared.Next.{Next}
 use Rattle.bodies.specs.Check.{Checked}
 
 abbrev pub up_to : ℕ → List ℕ
@@ -103,8 +107,8 @@ module _ (ps : Parts) (o : Outlines) (p : ContactPair) where
   abbrev pub pair_centers : List (List Float)
   pair_centers = row_of (pair_features ps o p).a.center.point ∷ row_of (pair_features ps o p).b.center.point ∷ []
 
-  abbrev pub pair_choices : List (List ℕ)
-  pair_choices = (side_chosen ps p.a (less_cuts p.geometry)).what ∷ sampled_row ps p.a ∷ (side_chosen ps p.b (less_cuts p.geometry)).what ∷ sampled_row ps p.b ∷ []
+abbrev pub pair_choices : Parts → ContactPair → List (List ℕ)
+pair_choices ps p = (side_chosen ps p.a (less_cuts p.geometry)).what ∷ sampled_row ps p.a ∷ (side_chosen ps p.b (less_cuts p.geometry)).what ∷ sampled_row ps p.b ∷ []
 
 module _ (m : Mechanism) where
   abbrev pub of_pair : {A : Type 0} → (Parts → Outlines → ContactPair → List A) → ℕ → List A
@@ -129,9 +133,95 @@ module _ (m : Mechanism) where
   center_table = flat (of_pair pair_centers) (up_to m.pairs.count)
 
   abbrev pub choice_table : List (List ℕ)
-  choice_table = flat (of_pair pair_choices) (up_to m.pairs.count)
+  choice_table = flat (λ i. pair_choices m.parts (pair_at m.pairs i)) (up_to m.pairs.count)
 
--- what is written where the description is accepted
-abbrev pub written_if : {A : Type 0} → Checked → List A → List A → List A
-written_if (Ok tt) before rows = sets before 0 rows
-written_if (Err p) before rows = before
+-- ---- the arrays
+-- those that hold zeros
+unfoldable pub blank_arrays : Arrays
+blank_arrays = record {
+  drawn = replicate 6144 (replicate 2 zero_f);
+  sampled = replicate 13056 (replicate 2 zero_f);
+  parts = replicate 32 (replicate 5 0);
+  faces = replicate 384 (replicate 6 zero_f);
+  fnames = replicate 384 (replicate 3 0);
+  discs = replicate 896 (replicate 7 zero_f);
+  dnames = replicate 896 (replicate 3 0);
+  sides = replicate 32 (replicate 7 0);
+  centers = replicate 32 (replicate 2 zero_f);
+  choices = replicate 64 (replicate 32 0);
+}
+
+-- what they lend: of the parts the first n
+abbrev pub lent_rows : Arrays → ℕ → TableRows
+lent_rows a n = record {
+  faces = a.faces;
+  fnames = a.fnames;
+  discs = a.discs;
+  dnames = a.dnames;
+  sides = a.sides;
+  centers = a.centers;
+  choices = a.choices;
+  drawn = a.drawn;
+  sampled = a.sampled;
+  parts = take n a.parts;
+}
+
+-- with the points of one part behind those before it
+abbrev pub with_points : Arrays → Next → List Point → List Point → Arrays
+with_points a at drawn sampled = record a {
+  drawn = sets a.drawn at.drawn (map row_of drawn);
+  sampled = sets a.sampled at.sampled (map row_of sampled);
+}
+
+-- with the tables of points and parts
+abbrev pub with_parts : Arrays → Parts → Outlines → Arrays
+with_parts a ps o = record a {
+  drawn = sets a.drawn 0 (drawn_table ps o);
+  sampled = sets a.sampled 0 (sampled_table ps o);
+  parts = sets a.parts 0 (part_table ps o);
+}
+
+-- with the features of side k
+abbrev pub with_features : Arrays → ℕ → SideFeatures → Arrays
+with_features a k s = record a {
+  faces = sets a.faces (12 * k) (face_rows s);
+  fnames = sets a.fnames (12 * k) (face_names s);
+  discs = sets a.discs (28 * k) (disc_rows s);
+  dnames = sets a.dnames (28 * k) (disc_names s);
+}
+
+-- with the rows of both sides of pair i
+abbrev pub with_sides : Arrays → ℕ → PairGeometry → PairFeatures → Arrays
+with_sides a i g f = record a {
+  sides = sets a.sides (2 * i) (side_row (2 * i) g f.a ∷ side_row (2 * i + 1) g f.b ∷ []);
+  centers = sets a.centers (2 * i) (row_of f.a.center.point ∷ row_of f.b.center.point ∷ []);
+}
+
+-- with all rows of pair i
+abbrev pub with_pair : Arrays → ℕ → Parts → Outlines → ContactPair → Arrays
+with_pair a i ps o p = record a {
+  faces = sets a.faces (24 * i) (pair_faces ps o p);
+  fnames = sets a.fnames (24 * i) (pair_face_names ps o p);
+  discs = sets a.discs (56 * i) (pair_discs ps o p);
+  dnames = sets a.dnames (56 * i) (pair_disc_names ps o p);
+  sides = sets a.sides (2 * i) (pair_sides ps o p i);
+  centers = sets a.centers (2 * i) (pair_centers ps o p);
+  choices = sets a.choices (4 * i) (pair_choices ps p);
+}
+
+-- with the tables of all pairs
+abbrev pub with_pairs : Arrays → Mechanism → Arrays
+with_pairs a m = record a {
+  faces = sets a.faces 0 (face_table m);
+  fnames = sets a.fnames 0 (face_name_table m);
+  discs = sets a.discs 0 (disc_table m);
+  dnames = sets a.dnames 0 (disc_name_table m);
+  sides = sets a.sides 0 (side_table m);
+  centers = sets a.centers 0 (center_table m);
+  choices = sets a.choices 0 (choice_table m);
+}
+
+-- with all tables of a description that is accepted
+abbrev pub prepared_over : Checked → Arrays → Mechanism → Arrays
+prepared_over (Ok tt) a m = with_pairs (with_parts a m.parts m.outlines) m
+prepared_over (Err p) a m = a

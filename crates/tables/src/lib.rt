@@ -1,16 +1,18 @@
 // Prepares a description for its readings: writes the rows of its tables.
 #![tactic(auto)]
 
-ghost use Rattle.std.specs.Prelude.{◌≡◌, true, ◌∷◌, [], map, ◌+◌, ◌*◌, ◌<◌, ◌≤◌, length};
+ghost use Rattle.std.specs.Prelude.{◌≡◌, true, map, ◌+◌, ◌*◌, ◌<◌, ◌≤◌, length};
 ghost use Rattle.std.proofs.lemmas.List.Edits.{sets};
 ghost use Rattle.laws.specs.Lists.{list_in, flat};
+ghost use Rattle.strips.specs.Strips.{table_rows};
 ghost use Rattle.mechanism.specs.Check.{check_of, pair_drawn, FewParts};
 ghost use Rattle.mechanism.specs.Description.{start_of_part};
 ghost use Rattle.mechanism.specs.Segments.{outlines_in};
 ghost use Rattle.silhouette.specs.Silhouette.{silhouette_from, silhouette_count};
 ghost use Rattle.drawing.specs.Drawing.{drawn_points, row_of};
 ghost use Rattle.drawing.specs.Samples.{on_line, sample_points, samples_of, mouths_of, mouths_in};
-ghost use Rattle.tables.specs.Tables.{drawn_of, sampled_of, drawn_up_to, sampled_up_to, drawn_table, sampled_table, part_table, face_rows, face_names, disc_rows, disc_names, geometry_of, side_row, sampled_row, less_cuts, pair_faces, pair_face_names, pair_discs, pair_disc_names, pair_sides, pair_centers, pair_choices, face_table, face_name_table, disc_table, disc_name_table, side_table, center_table, choice_table, written_if};
+ghost use Rattle.tables.specs.Tables.{drawn_of, sampled_of, drawn_up_to, sampled_up_to, face_rows, face_names, disc_rows, disc_names, geometry_of, side_row, sampled_row, less_cuts, pair_choices};
+ghost use Rattle.tables.specs.Tables.{blank_arrays, lent_rows, with_points, with_parts, with_features, with_sides, with_pair, with_pairs, prepared_over};
 
 use bodies::Problem;
 use drawing::samples::{Mouth, draw_mouths, is_mouth, on_line};
@@ -24,9 +26,9 @@ use mechanism::{Mechanism, Outlines, Parts};
 use sides::SideFeatures;
 use sides::contacts::{PairFeatures, pair_features_at};
 use silhouette::rows::{silhouette_count, silhouette_seg};
+use strips::tables::Tables;
 use strips::{
     ChoiceRow, DiscRow, FaceRow, PartRow, PieceRow, PointRow, SideRow, disc_row, face_row,
-    piece_row,
 };
 
 // The drawn points of all parts.
@@ -59,6 +61,60 @@ pub type CenterRows = [PointRow; 32];
 // The parts that make the sides' material.
 pub type ChoiceRows = [ChoiceRow; 64];
 
+// Arrays for the tables of a description.
+#[derive(Drop)]
+pub struct Arrays {
+    pub drawn: DrawnRows,
+    pub sampled: SampledRows,
+    pub parts: PartRows,
+    pub faces: FaceRows,
+    pub fnames: FaceNames,
+    pub discs: DiscRows,
+    pub dnames: DiscNames,
+    pub sides: SideRows,
+    pub centers: CenterRows,
+    pub choices: ChoiceRows,
+}
+
+impl Arrays {
+    // Arrays that hold zeros.
+    #[tactic(auto, unfolding(crate::specs::Tables::blank_arrays))]
+    pub fn blank() -> Arrays
+        ensures { result ≡ blank_arrays }
+    {
+        Arrays {
+            drawn: [[0.0; 2]; 6144],
+            sampled: [[0.0; 2]; 13056],
+            parts: [[0; 5]; 32],
+            faces: [[0.0; 6]; 384],
+            fnames: [[0; 3]; 384],
+            discs: [[0.0; 7]; 896],
+            dnames: [[0; 3]; 896],
+            sides: [[0; 7]; 32],
+            centers: [[0.0; 2]; 32],
+            choices: [[0; 32]; 64],
+        }
+    }
+
+    // The tables that stand here, those of so many parts, at most 32.
+    pub fn lent(&self, parts: usize) -> Tables<'_>
+        ensures { table_rows result ≡ lent_rows self.now parts }
+    {
+        Tables {
+            faces: &self.faces,
+            fnames: &self.fnames,
+            discs: &self.discs,
+            dnames: &self.dnames,
+            sides: &self.sides,
+            centers: &self.centers,
+            choices: &self.choices,
+            drawn: &self.drawn,
+            sampled: &self.sampled,
+            parts: &self.parts[..parts.min(32)],
+        }
+    }
+}
+
 // ---- points
 
 // Writes the points of a segment as it is drawn, from `at` on.
@@ -77,7 +133,7 @@ fn put_drawn_seg(out: &mut [PointRow], at: usize, s: Seg) -> usize
 // Writes the silhouette of a part whose outline starts in row `first` as it is drawn, from `at` on.
 fn put_drawn(out: &mut [PointRow], at: usize, segs: &[SegRow], first: usize, p: Part) -> usize
     requires { (p.segs ≤ 48) × (first + p.segs ≤ length segs.now) × (at + 8 * silhouette_count p ≤ length out.old) }
-    ensures { (result ≡ at + length (flat drawn_points (silhouette_from (outlines_in segs.now) first p))) × (out.new ≡ sets out.old at (map row_of (flat drawn_points (silhouette_from (outlines_in segs.now) first p)))) }
+    ensures { let ps = flat drawn_points (silhouette_from (outlines_in segs.now) first p) in (result ≡ at + length ps) × (out.new ≡ sets out.old at (map row_of ps)) }
 {
     let mut to = at;
     for i in 0..silhouette_count(p) {
@@ -129,7 +185,7 @@ fn put_sampled(
     mouths: &[Mouth],
 ) -> usize
     requires { (p.segs ≤ 48) × (first + p.segs ≤ length segs.now) × (at + 17 * silhouette_count p ≤ length out.old) }
-    ensures { (result ≡ at + length (flat (samples_of (mouths_in mouths.now)) (silhouette_from (outlines_in segs.now) first p))) × (out.new ≡ sets out.old at (map row_of (flat (samples_of (mouths_in mouths.now)) (silhouette_from (outlines_in segs.now) first p)))) }
+    ensures { let ps = flat (samples_of (mouths_in mouths.now)) (silhouette_from (outlines_in segs.now) first p) in (result ≡ at + length ps) × (out.new ≡ sets out.old at (map row_of ps)) }
 {
     let mut to = at;
     for i in 0..silhouette_count(p) {
@@ -145,81 +201,69 @@ struct Next {
     sampled: usize,
 }
 
-// Writes the points of part i, whose outline starts in row `first`, behind those of the parts before it.
-fn put_part_points(
-    drawn: &mut [PointRow],
-    sampled: &mut [PointRow],
-    ps: Parts,
-    segs: &[SegRow],
-    mouths: &[Mouth],
-    i: usize,
-    first: usize,
-    at: Next,
-) -> Next
-    requires { FewParts ps × (i < ps.count) × (first ≡ start_of_part ps i) × (start_of_part ps ps.count ≤ length segs.now) × (mouths_in mouths.now ≡ mouths_of ps (outlines_in segs.now)) × (at.drawn ≡ length (drawn_up_to ps (outlines_in segs.now) i)) × (at.sampled ≡ length (sampled_up_to ps (outlines_in segs.now) i)) × (6144 ≤ length drawn.old) × (13056 ≤ length sampled.old) }
-    ensures { (result.drawn ≡ at.drawn + length (drawn_of ps (outlines_in segs.now) i)) × (result.sampled ≡ at.sampled + length (sampled_of ps (outlines_in segs.now) i)) × (drawn.new ≡ sets drawn.old at.drawn (map row_of (drawn_of ps (outlines_in segs.now) i))) × (sampled.new ≡ sets sampled.old at.sampled (map row_of (sampled_of ps (outlines_in segs.now) i))) }
-{
-    let p = ps.part[i];
-    let d = put_drawn(drawn, at.drawn, segs, first, p);
-    let s = if is_sampled(p) {
-        put_sampled(sampled, at.sampled, segs, first, p, mouths)
-    } else {
-        at.sampled
-    };
-    Next {
-        drawn: d,
-        sampled: s,
-    }
-}
-
-// Writes the points of all parts, and a row for each part.
-fn put_parts(
-    drawn: &mut [PointRow],
-    sampled: &mut [PointRow],
-    parts: &mut [PartRow],
-    ps: Parts,
-    segs: &[SegRow],
-    mouths: &[Mouth],
-)
-    requires { FewParts ps × (start_of_part ps ps.count ≤ length segs.now) × (mouths_in mouths.now ≡ mouths_of ps (outlines_in segs.now)) × (6144 ≤ length drawn.old) × (13056 ≤ length sampled.old) × (32 ≤ length parts.old) }
-    ensures { (drawn.new ≡ sets drawn.old 0 (drawn_table ps (outlines_in segs.now))) × (sampled.new ≡ sets sampled.old 0 (sampled_table ps (outlines_in segs.now))) × (parts.new ≡ sets parts.old 0 (part_table ps (outlines_in segs.now))) }
-{
-    let mut first: usize = 0;
-    let mut at = Next {
-        drawn: 0,
-        sampled: 0,
-    };
-    for i in 0..ps.count {
+impl Arrays {
+    // Writes the points of part i, whose outline starts in row `first`, behind those of the parts before it.
+    fn put_part_points(
+        &mut self,
+        ps: Parts,
+        segs: &[SegRow],
+        mouths: &[Mouth],
+        i: usize,
+        first: usize,
+        at: Next,
+    ) -> Next
+        requires room { FewParts ps × (i < ps.count) × (first ≡ start_of_part ps i) × (start_of_part ps ps.count ≤ length segs.now) }
+        requires mouths { mouths_in mouths.now ≡ mouths_of ps (outlines_in segs.now) }
+        requires places { (at.drawn ≡ length (drawn_up_to ps (outlines_in segs.now) i)) × (at.sampled ≡ length (sampled_up_to ps (outlines_in segs.now) i)) }
+        ensures next { (result.drawn ≡ at.drawn + length (drawn_of ps (outlines_in segs.now) i)) × (result.sampled ≡ at.sampled + length (sampled_of ps (outlines_in segs.now) i)) }
+        ensures after { self.new ≡ with_points self.old at (drawn_of ps (outlines_in segs.now) i) (sampled_of ps (outlines_in segs.now) i) }
+    {
         let p = ps.part[i];
-        let to = put_part_points(drawn, sampled, ps, segs, mouths, i, first, at);
-        parts[i] = [
-            p.body,
-            at.drawn,
-            to.drawn - at.drawn,
-            at.sampled,
-            to.sampled - at.sampled,
-        ];
-        at = to;
-        first += p.segs;
+        let drawn = put_drawn(&mut self.drawn, at.drawn, segs, first, p);
+        let sampled = if is_sampled(p) {
+            put_sampled(&mut self.sampled, at.sampled, segs, first, p, mouths)
+        } else {
+            at.sampled
+        };
+        Next { drawn, sampled }
     }
-}
 
-// The same of outlines as a value, with the mouths of all cuts.
-fn put_all_parts(
-    drawn: &mut [PointRow],
-    sampled: &mut [PointRow],
-    parts: &mut [PartRow],
-    ps: Parts,
-    o: Outlines,
-)
-    requires { FewParts ps × (6144 ≤ length drawn.old) × (13056 ≤ length sampled.old) × (32 ≤ length parts.old) }
-    ensures { (drawn.new ≡ sets drawn.old 0 (drawn_table ps o)) × (sampled.new ≡ sets sampled.old 0 (sampled_table ps o)) × (parts.new ≡ sets parts.old 0 (part_table ps o)) }
-{
-    let mut segs = [[0.0; 8]; 384];
-    let mut mouths = [[0.0; 4]; 768];
-    put_segs(&mut segs, o, segs_counted(ps));
-    let n = draw_mouths(&mut mouths, ps, &segs);
-    put_parts(drawn, sampled, parts, ps, &segs, &mouths[..n]);
+    // Writes the points of all parts, and a row for each part.
+    fn put_parts(&mut self, ps: Parts, segs: &[SegRow], mouths: &[Mouth])
+        requires { FewParts ps × (start_of_part ps ps.count ≤ length segs.now) × (mouths_in mouths.now ≡ mouths_of ps (outlines_in segs.now)) }
+        ensures { self.new ≡ with_parts self.old ps (outlines_in segs.now) }
+    {
+        let mut first: usize = 0;
+        let mut at = Next {
+            drawn: 0,
+            sampled: 0,
+        };
+        for i in 0..ps.count {
+            let p = ps.part[i];
+            let to = self.put_part_points(ps, segs, mouths, i, first, at);
+            self.parts[i] = [
+                p.body,
+                at.drawn,
+                to.drawn - at.drawn,
+                at.sampled,
+                to.sampled - at.sampled,
+            ];
+            at = to;
+            first += p.segs;
+        }
+    }
+
+    // The same of outlines as a value, with the mouths of all cuts.
+    fn put_all_parts(&mut self, ps: Parts, o: Outlines)
+        requires { FewParts ps }
+        ensures { self.new ≡ with_parts self.old ps o }
+    {
+        let mut segs = [[0.0; 8]; 384];
+        let mut mouths = [[0.0; 4]; 768];
+        put_segs(&mut segs, o, segs_counted(ps));
+        let n = draw_mouths(&mut mouths, ps, &segs);
+        self.put_parts(ps, &segs, &mouths[..n]);
+    }
 }
 
 // ---- features
@@ -240,7 +284,7 @@ fn put_face_names(out: &mut [PieceRow], at: usize, s: SideFeatures)
     ensures { out.new ≡ sets out.old at (face_names s) }
 {
     for i in 0..12 {
-        out[at + i] = piece_row(s.face[i].piece);
+        out[at + i] = PieceRow::from(s.face[i].piece);
     }
 }
 
@@ -260,26 +304,8 @@ fn put_disc_names(out: &mut [PieceRow], at: usize, s: SideFeatures)
     ensures { out.new ≡ sets out.old at (disc_names s) }
 {
     for i in 0..28 {
-        out[at + i] = piece_row(s.disc[i].piece);
+        out[at + i] = PieceRow::from(s.disc[i].piece);
     }
-}
-
-// Writes the features of a side, number k of all.
-fn put_side(
-    faces: &mut [FaceRow],
-    fnames: &mut [PieceRow],
-    discs: &mut [DiscRow],
-    dnames: &mut [PieceRow],
-    k: usize,
-    s: SideFeatures,
-)
-    requires { (k < 32) × (384 ≤ length faces.old) × (384 ≤ length fnames.old) × (896 ≤ length discs.old) × (896 ≤ length dnames.old) }
-    ensures { (faces.new ≡ sets faces.old (12 * k) (face_rows s)) × (fnames.new ≡ sets fnames.old (12 * k) (face_names s)) × (discs.new ≡ sets discs.old (28 * k) (disc_rows s)) × (dnames.new ≡ sets dnames.old (28 * k) (disc_names s)) }
-{
-    put_faces(faces, 12 * k, s);
-    put_face_names(fnames, 12 * k, s);
-    put_discs(discs, 28 * k, s);
-    put_disc_names(dnames, 28 * k, s);
 }
 
 fn geometry_of(g: PairGeometry) -> usize
@@ -333,113 +359,73 @@ fn center_row(s: SideFeatures) -> PointRow
 
 // ---- pairs
 
-// Writes the choices of pair i.
-fn put_choices(choices: &mut [ChoiceRow], i: usize, ps: Parts, o: Outlines, p: ContactPair)
-    requires { (i < 16) × (64 ≤ length choices.old) }
-    ensures { choices.new ≡ sets choices.old (4 * i) (pair_choices ps o p) }
-{
-    let cuts = less_cuts(p.geometry);
-    let of_a = side_chosen(ps, p.a, cuts).what;
-    let of_b = side_chosen(ps, p.b, cuts).what;
-    choices[4 * i] = of_a;
-    choices[4 * i + 1] = sampled_row(ps, p.a);
-    choices[4 * i + 2] = of_b;
-    choices[4 * i + 3] = sampled_row(ps, p.b);
-}
-
-// Writes the sides and centres of pair i.
-fn put_sides(
-    sides: &mut [SideRow],
-    centers: &mut [PointRow],
-    i: usize,
-    g: PairGeometry,
-    f: PairFeatures,
-)
-    requires { (i < 16) × (32 ≤ length sides.old) × (32 ≤ length centers.old) }
-    ensures { (sides.new ≡ sets sides.old (2 * i) (side_row (2 * i) g f.a ∷ side_row (2 * i + 1) g f.b ∷ [])) × (centers.new ≡ sets centers.old (2 * i) (row_of f.a.center.point ∷ row_of f.b.center.point ∷ [])) }
-{
-    sides[2 * i] = side_row(2 * i, g, f.a);
-    sides[2 * i + 1] = side_row(2 * i + 1, g, f.b);
-    centers[2 * i] = center_row(f.a);
-    centers[2 * i + 1] = center_row(f.b);
-}
-
-// Writes pair i.
-fn put_pair(
-    faces: &mut [FaceRow],
-    fnames: &mut [PieceRow],
-    discs: &mut [DiscRow],
-    dnames: &mut [PieceRow],
-    sides: &mut [SideRow],
-    centers: &mut [PointRow],
-    choices: &mut [ChoiceRow],
-    i: usize,
-    ps: Parts,
-    o: Outlines,
-    p: ContactPair,
-)
-    requires { (i < 16) × (pair_drawn ps p ≡ true) × (384 ≤ length faces.old) × (384 ≤ length fnames.old) × (896 ≤ length discs.old) × (896 ≤ length dnames.old) × (32 ≤ length sides.old) × (32 ≤ length centers.old) × (64 ≤ length choices.old) }
-    ensures { (faces.new ≡ sets faces.old (24 * i) (pair_faces ps o p)) × (fnames.new ≡ sets fnames.old (24 * i) (pair_face_names ps o p)) × (discs.new ≡ sets discs.old (56 * i) (pair_discs ps o p)) × (dnames.new ≡ sets dnames.old (56 * i) (pair_disc_names ps o p)) × (sides.new ≡ sets sides.old (2 * i) (pair_sides ps o p i)) × (centers.new ≡ sets centers.old (2 * i) (pair_centers ps o p)) × (choices.new ≡ sets choices.old (4 * i) (pair_choices ps o p)) }
-{
-    let f = pair_features_at(ps, o, p);
-    put_side(faces, fnames, discs, dnames, 2 * i, f.a);
-    put_side(faces, fnames, discs, dnames, 2 * i + 1, f.b);
-    put_sides(sides, centers, i, p.geometry, f);
-    put_choices(choices, i, ps, o, p);
-}
-
-// Writes all pairs of an accepted description.
-fn put_pairs(
-    faces: &mut [FaceRow],
-    fnames: &mut [PieceRow],
-    discs: &mut [DiscRow],
-    dnames: &mut [PieceRow],
-    sides: &mut [SideRow],
-    centers: &mut [PointRow],
-    choices: &mut [ChoiceRow],
-    m: Mechanism,
-)
-    requires { (check_of m ≡ Ok tt) × (384 ≤ length faces.old) × (384 ≤ length fnames.old) × (896 ≤ length discs.old) × (896 ≤ length dnames.old) × (32 ≤ length sides.old) × (32 ≤ length centers.old) × (64 ≤ length choices.old) }
-    ensures { (faces.new ≡ sets faces.old 0 (face_table m)) × (fnames.new ≡ sets fnames.old 0 (face_name_table m)) × (discs.new ≡ sets discs.old 0 (disc_table m)) × (dnames.new ≡ sets dnames.old 0 (disc_name_table m)) × (sides.new ≡ sets sides.old 0 (side_table m)) × (centers.new ≡ sets centers.old 0 (center_table m)) × (choices.new ≡ sets choices.old 0 (choice_table m)) }
-{
-    for i in 0..m.pairs.count {
-        put_pair(
-            faces,
-            fnames,
-            discs,
-            dnames,
-            sides,
-            centers,
-            choices,
-            i,
-            m.parts,
-            m.outlines,
-            m.pairs.pair[i],
-        );
+impl Arrays {
+    // Writes the features of a side, number k of all.
+    fn put_side(&mut self, k: usize, s: SideFeatures)
+        requires { k < 32 }
+        ensures { self.new ≡ with_features self.old k s }
+    {
+        put_faces(&mut self.faces, 12 * k, s);
+        put_face_names(&mut self.fnames, 12 * k, s);
+        put_discs(&mut self.discs, 28 * k, s);
+        put_disc_names(&mut self.dnames, 28 * k, s);
     }
-}
 
-// Writes the tables of a description that is accepted from the front of the lent arrays; everything behind them stays, and everything where it is refused.
-pub fn prepare(
-    m: Mechanism,
-    drawn: &mut DrawnRows,
-    sampled: &mut SampledRows,
-    parts: &mut PartRows,
-    faces: &mut FaceRows,
-    fnames: &mut FaceNames,
-    discs: &mut DiscRows,
-    dnames: &mut DiscNames,
-    sides: &mut SideRows,
-    centers: &mut CenterRows,
-    choices: &mut ChoiceRows,
-) -> Result<(), Problem>
-    ensures value { result ≡ check_of m }
-    ensures drawn_after { (drawn.new ≡ written_if (check_of m) drawn.old (drawn_table m.parts m.outlines)) × (sampled.new ≡ written_if (check_of m) sampled.old (sampled_table m.parts m.outlines)) × (parts.new ≡ written_if (check_of m) parts.old (part_table m.parts m.outlines)) }
-    ensures faces_after { (faces.new ≡ written_if (check_of m) faces.old (face_table m)) × (fnames.new ≡ written_if (check_of m) fnames.old (face_name_table m)) × (discs.new ≡ written_if (check_of m) discs.old (disc_table m)) × (dnames.new ≡ written_if (check_of m) dnames.old (disc_name_table m)) }
-    ensures sides_after { (sides.new ≡ written_if (check_of m) sides.old (side_table m)) × (centers.new ≡ written_if (check_of m) centers.old (center_table m)) × (choices.new ≡ written_if (check_of m) choices.old (choice_table m)) }
-{
-    check(m)?;
-    put_all_parts(drawn, sampled, parts, m.parts, m.outlines);
-    put_pairs(faces, fnames, discs, dnames, sides, centers, choices, m);
-    Ok(())
+    // Writes the choices of pair i.
+    fn put_choices(&mut self, i: usize, ps: Parts, p: ContactPair)
+        requires { i < 16 }
+        ensures { self.new ≡ record self.old { choices = sets self.old.choices (4 * i) (pair_choices ps p) } }
+    {
+        let cuts = less_cuts(p.geometry);
+        let of_a = side_chosen(ps, p.a, cuts).what;
+        let of_b = side_chosen(ps, p.b, cuts).what;
+        self.choices[4 * i] = of_a;
+        self.choices[4 * i + 1] = sampled_row(ps, p.a);
+        self.choices[4 * i + 2] = of_b;
+        self.choices[4 * i + 3] = sampled_row(ps, p.b);
+    }
+
+    // Writes the sides and centres of pair i.
+    fn put_sides(&mut self, i: usize, g: PairGeometry, f: PairFeatures)
+        requires { i < 16 }
+        ensures { self.new ≡ with_sides self.old i g f }
+    {
+        self.sides[2 * i] = side_row(2 * i, g, f.a);
+        self.sides[2 * i + 1] = side_row(2 * i + 1, g, f.b);
+        self.centers[2 * i] = center_row(f.a);
+        self.centers[2 * i + 1] = center_row(f.b);
+    }
+
+    // Writes pair i.
+    fn put_pair(&mut self, i: usize, ps: Parts, o: Outlines, p: ContactPair)
+        requires { (i < 16) × (pair_drawn ps p ≡ true) }
+        ensures { self.new ≡ with_pair self.old i ps o p }
+    {
+        let f = pair_features_at(ps, o, p);
+        self.put_side(2 * i, f.a);
+        self.put_side(2 * i + 1, f.b);
+        self.put_sides(i, p.geometry, f);
+        self.put_choices(i, ps, p);
+    }
+
+    // Writes all pairs of an accepted description.
+    fn put_pairs(&mut self, m: Mechanism)
+        requires { check_of m ≡ Ok tt }
+        ensures { self.new ≡ with_pairs self.old m }
+    {
+        for i in 0..m.pairs.count {
+            self.put_pair(i, m.parts, m.outlines, m.pairs.pair[i]);
+        }
+    }
+
+    // Writes the tables of a description that is accepted from the front of the arrays; everything behind them stays, and everything where it is refused.
+    pub fn prepare(&mut self, m: Mechanism) -> Result<(), Problem>
+        ensures value { result ≡ check_of m }
+        ensures after { self.new ≡ prepared_over (check_of m) self.old m }
+    {
+        check(m)?;
+        self.put_all_parts(m.parts, m.outlines);
+        self.put_pairs(m);
+        Ok(())
+    }
 }

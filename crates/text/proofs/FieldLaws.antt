@@ -215,7 +215,8 @@ module _ {line form : List ℕ} {at j e : ℕ} (h : j < length form) (w : Fittin
 pub fits-done : {line form : List ℕ} {at j : ℕ} → length form ≤ j → Fitting line form at j → false ≡ fits_form form (split 44 line)
 unfolding fits_form
 fits-done {line} {form} {at} {j} h w =
-    sym (ap (λ (x : List ℕ). fits_form x (split 44 (drop at line))) (drop_of_length-le form h) ∙ at_least_one (λ (l : List (List ℕ)). fits_form [] l ≡ false) (λ f fs. refl) 44 (drop at line))
+    sym (ap (λ (x : List ℕ). fits_form x (split 44 (drop at line))) (drop_of_length-le form h)
+    ∙ at_least_one (λ (l : List (List ℕ)). fits_form [] l ≡ false) (λ f fs. refl) 44 (drop at line))
     ∙ w.same
 
 -- ---- a line of which i fields are passed, the next starting at `at`

@@ -1,5 +1,6 @@
 -- The fields of a line: whole numbers, floats and letters. Definitions only.
-use Rattle.std.specs.Prelude.{ℕ, ◌+◌, ◌*◌, ◌-◌, Bool, true, false, not, ◌&&◌, ◌||◌, cond, List, [], ◌∷◌, ltb, leb, eqb, get_or, length, Float, Option, Some, None, is_some, unwrap_or}
+use Rattle.std.specs.Prelude.{ℕ, ◌+◌, ◌*◌, ◌-◌, Bool, true, false, not, ◌&&◌, ◌||◌, cond, ltb, leb, eqb}
+use Rattle.std.specs.Prelude.{List, [], ◌∷◌, get_or, length, Float, Option, Some, None, is_some, unwrap_or}
 use Prim.Native.Char.{code}
 use Rattle.std.specs.Float.Ieee.{of_bits}
 use Rattle.std.specs.Float.{binary64}

@@ -1,49 +1,30 @@
-use native.Mathlib.Omega.{arith}
-use mathlib.Core.Path.{sym, ◌∙◌}
-use Rattle.candidates.proofs.Sides.{faces_long}
-use Rattle.bearings.proofs.Best.{walked_start, walked_takes, walked_stays, walked_skips, walked_some, walked_none}
+use mathlib.Core.Path.{sym, ap, ◌∙◌}
+use Rattle.std.proofs.Common.{rules, tests}
+use Rattle.bearings.proofs.Best.{walked_start, walked_takes, walked_stays, walked_skips, walked-done, faced, better-is}
 use Rattle.bearings.proofs.best_face.Goals as goal
-use Rattle.bearings.proofs.best_face.Goals.{then-meets_any+then-best-m, then-meets_any+else-best-m, else-meets_any}
+use Rattle.bearings.proofs.best_face.Goals.{then-meets_any+then-is_none_or, then-meets_any+else-is_none_or, else-meets_any}
 
 pub loop-i-init : goal.loop-i-init
-loop-i-init c = walked_start _ _ _ _ _
-
-pub meets_any-requires : goal.meets_any-requires
-meets_any-requires c = c.requires
+loop-i-init g c by reads = walked_start _ by _
 
 pub loop-i-preserved : goal.loop-i-preserved
-loop-i-preserved c =
-    let z = faces_long c.args.s _ c.well_formed.0 in
-    let e = c.faces-m.ensures.0 in
-    let i = c.loop-i-test.true in
+loop-i-preserved g c by reads =
+    let all = c.faces-i-end.ensures.0 in
+    let so_far = c.loop-i.invariant by reads in
     elim c.if-meets_any.branch [
-      | then-meets_any+then-best-m w ↦
-          rw (w.best-is, w.top-is)
-          (walked_takes c.loop-i.invariant (omega arith) i (sym c.meets_any.ensures ∙ w.if-meets_any.true) w.score-x.ensures w.total_order.ensures w.if-best-m.true)
-      | then-meets_any+else-best-m w ↦
-          rw (w.best-is, w.top-is)
-          (walked_stays c.loop-i.invariant (omega arith) i (sym c.meets_any.ensures ∙ w.if-meets_any.true) w.score-x.ensures w.total_order.ensures w.if-best-m.false)
-      | else-meets_any w ↦ rw (w.best-is, w.top-is) (walked_skips c.loop-i.invariant (omega arith) i (sym c.meets_any.ensures ∙ w.if-meets_any.false))
+      | then-meets_any+then-is_none_or w ↦
+          rw w.best-is
+          (walked_takes so_far all c.loop-i-test.true c.face.ensures (sym c.meets_any.ensures ∙ w.if-meets_any.true) (reads _ _ w.score-x.ensures)
+          (sym (better-is c.loop-i.best w.score-x.result w.is_none_or.ensures (λ b k. search (rules, tests))) ∙ w.if-is_none_or.true))
+      | then-meets_any+else-is_none_or w ↦
+          rw w.best-is
+          (walked_stays so_far all c.loop-i-test.true c.face.ensures (sym c.meets_any.ensures ∙ w.if-meets_any.true) (reads _ _ w.score-x.ensures)
+          (sym (better-is c.loop-i.best w.score-x.result w.is_none_or.ensures (λ b k. search (rules, tests))) ∙ w.if-is_none_or.false))
+      | else-meets_any w ↦ rw w.best-is (walked_skips so_far all c.loop-i-test.true c.face.ensures (sym c.meets_any.ensures ∙ w.if-meets_any.false))
     ]
 
-pub offset_bounds-s-best : goal.offset_bounds-s-best
-offset_bounds-s-best c = let p = c.faces-m.ensures.0 in omega arith
-
-pub bounds-s-best : goal.bounds-s-best
-bounds-s-best c = let p = c.faces-m.ensures.0 in omega arith
-
-pub returns-then-best-m-2 : goal.returns-then-best-m-2
-returns-then-best-m-2 c =
-    let s = c in
-    let z = faces_long s.args.s _ s.well_formed.0 in
-    let e = c.faces-m.ensures in
-    let k = e.0 in
-    walked_some c.loop-i.invariant (omega arith) e.1 c.loop-i-test.false c.if-best-m-2.true
+pub returns-in_err-best : goal.returns-in_err-best
+returns-in_err-best g c by reads = c.from_residual.ensures ∙ sym (ap faced c.in_err-best.was) ∙ walked-done (c.loop-i.invariant by reads) c.faces-i-end.ensures.0 c.loop-i-test.false
 
 pub returns : goal.returns
-returns c =
-    let s = c in
-    let z = faces_long s.args.s _ s.well_formed.0 in
-    let e = c.faces-m.ensures in
-    let k = e.0 in
-    walked_none c.loop-i.invariant (omega arith) e.1 c.loop-i-test.false c.if-best-m-2.false
+returns g c by reads = sym (ap faced c.in_ok-best.was) ∙ walked-done (c.loop-i.invariant by reads) c.faces-i-end.ensures.0 c.loop-i-test.false

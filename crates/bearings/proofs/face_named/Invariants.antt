@@ -1,8 +1,8 @@
 use mathlib.Core.Path.{◌≡◌}
-use lib.ListN.{take, drop}
-use Rattle.candidates.specs.Candidates.{faces_in}
+use lib.ListN.{drop}
+use Rattle.sides.specs.Features.{faces_in}
 use Rattle.bearings.specs.Bearing.{face_named}
 use Rattle.bearings.proofs.face_named.Given as goal
 
 abbrev pub invariant-loop-i : goal.invariant-loop-i
-invariant-loop-i l = face_named l.piece (drop l.i (take l.m l.s.face)) ≡ face_named l.piece (faces_in l.s)
+invariant-loop-i g l = let xs = faces_in (g.S.Side.features l.s) in face_named l.piece (drop l.i xs) ≡ face_named l.piece xs

@@ -1,21 +1,8 @@
-use native.Mathlib.Omega.{arith}
-use Rattle.material.specs.Material.{material_of}
+use Rattle.std.proofs.Common.{rules}
+use Rattle.material.specs.Material.{drawn_material}
 use Rattle.proximities.specs.Proximities.{read_ba}
-use Rattle.proximities.proofs.Wrote.{ba_short, first-few, wrote_start, wrote_more, wrote_end, wrote_room}
 use Rattle.candidates.proofs.discs_on_a.Goals as goal
 
-pub loop-d-init : goal.loop-d-init
-loop-d-init c = wrote_start _ _ _ _ _
-
-pub disc_on_a-to-requires : goal.disc_on_a-to-requires
-disc_on_a-to-requires c =
-    let s = c.args in
-    let r = c.requires in
-    let w = wrote_room c.loop-d.invariant s.a.faces s.b.discs (λ d. first-few (read_ba (material_of s.points.now s.starts.now s.n.solids s.n.all) d) (ba_short (material_of s.points.now s.starts.now s.n.solids s.n.all) d) s.a.face s.a.faces) (omega arith) r.2 r.3 in
-    (r.1, w.0, w.1)
-
-pub loop-d-preserved : goal.loop-d-preserved
-loop-d-preserved c = let r = c.requires in wrote_more c.loop-d.invariant _ (omega arith) c.disc_on_a-to.ensures
-
-pub returns : goal.returns
-returns c = wrote_end c.loop-d.invariant (omega arith)
+pub returns-clause-written : goal.returns-clause-written
+unfolding read_ba
+returns-clause-written c = c.put_all.ensures.written (read_ba (drawn_material c.args.m.now)) (λ d f r p. search rules)

@@ -6,14 +6,10 @@ use Rattle.candidates.proofs.Sides.{has_room}
 use Rattle.candidates.proofs.pair_candidates.Goals as goal
 
 pub drawn_candidates-requires : goal.drawn_candidates-requires
-drawn_candidates-requires c =
-    let s = c in
-    has_room s.args.ps s.args.p (length s.args.near.now) (length s.args.named.now) (sym c.candidate_room.ensures ∙ c.if-candidate_room.true)
+drawn_candidates-requires c = has_room c.args.ps c.args.p (length c.args.out.now) (sym c.candidate_room.ensures ∙ c.if-candidate_room.true)
 
 pub returns-then-candidate_room : goal.returns-then-candidate_room
 returns-then-candidate_room c = wrote_same (sym (cond_yes _ _ (sym c.candidate_room.ensures ∙ c.if-candidate_room.true))) c.drawn_candidates.ensures
 
 pub returns : goal.returns
-returns c =
-    let s = c in
-    wrote_same (sym (cond_no _ _ (sym c.candidate_room.ensures ∙ c.if-candidate_room.false))) (wrote_nothing 0 s.args.near.now s.args.named.now)
+returns c = wrote_same (sym (cond_no _ _ (sym c.candidate_room.ensures ∙ c.if-candidate_room.false))) (wrote_nothing 0 c.args.out.now)

@@ -1,26 +1,14 @@
-use Rattle.laws.specs.Lists.{list_in}
-use Rattle.proximities.proofs.Wrote.{wrote_both}
-use Rattle.candidates.specs.Candidates.{no_material}
-use Rattle.candidates.proofs.Rooms.{first-room, second-room, third-room}
+use mathlib.Core.Path.{ap}
+use Rattle.material.specs.Material.{Material}
+use Rattle.proximities.specs.Proximities.{read_ab, read_ba, each}
+use Rattle.proximities.proofs.Wrote.{wrote_same, wrote_both}
+use Rattle.sides.specs.Features.{faces_in, discs_in}
 use Rattle.candidates.proofs.plain_features.Goals as goal
 
-pub discs_on_b-i-requires : goal.discs_on_b-i-requires
-discs_on_b-i-requires c =
-    let s = c in
-    first-room s.requires.0 s.args.near.now s.args.named.now s.requires.1 s.requires.2
-
-pub discs_on_a-j-requires : goal.discs_on_a-j-requires
-unfolding list_in
-discs_on_a-j-requires c =
-    let s = c in
-    second-room s.requires.0 s.args.near.now s.args.named.now s.requires.1 s.requires.2 no_material c.discs_on_b-i.ensures
-
-pub discs_on_discs-requires : goal.discs_on_discs-requires
-unfolding list_in
-discs_on_discs-requires c =
-    let s = c in
-    third-room s.requires.0 s.args.near.now s.args.named.now s.requires.1 s.requires.2 no_material c.discs_on_b-i.ensures no_material c.discs_on_a-j.ensures
-
 pub returns : goal.returns
-unfolding list_in
-returns c = wrote_both c.discs_on_b-i.ensures (wrote_both c.discs_on_a-j.ensures c.discs_on_discs.ensures)
+returns c =
+    let a = c.args.a.now in
+    let b = c.args.b.now in
+    let e = c.nothing-m.ensures in
+    wrote_both (wrote_same (ap (λ (m : Material). each (read_ab m) (discs_in a) (faces_in b)) e) c.discs_on_b-i.ensures.written)
+    (wrote_both (wrote_same (ap (λ (m : Material). each (read_ba m) (discs_in b) (faces_in a)) e) c.discs_on_a-j.ensures.written) c.discs_on_discs.ensures)

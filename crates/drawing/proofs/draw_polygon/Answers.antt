@@ -1,6 +1,6 @@
 use native.Mathlib.Omega.{arith}
 use Rattle.drawing.specs.Drawing.{drawn_points}
-use Rattle.drawing.proofs.Segments.{places_start, places_more, places_end, drawn-short, rows-count}
+use Rattle.drawing.proofs.Segments.{places_start, places_room, places_more, places_end, drawn-short, rows-count}
 use Rattle.drawing.proofs.draw_polygon.Goals as goal
 
 pub loop-i-init : goal.loop-i-init
@@ -8,10 +8,10 @@ loop-i-init c = places_start 8 drawn_points _ _ _ _
 
 pub draw_seg-to-requires : goal.draw_seg-to-requires
 draw_seg-to-requires c =
+    let s = c in
     let e = c.silhouette_count-i-end.ensures.0 in
-    let r = c.loop-i.invariant.room in
-    let w = c.loop-i.invariant.rest.long in
-    omega arith
+    let k = rows-count s.args.segs.now s.args.first s.args.p s.requires.0 s.requires.1 in
+    places_room c.loop-i.invariant (omega arith) c.silhouette_seg.ensures s.requires.2
 
 pub loop-i-preserved : goal.loop-i-preserved
 loop-i-preserved c =

@@ -1,7 +1,7 @@
 use native.Mathlib.Omega.{arith}
 use mathlib.Core.Path.{refl}
 use Rattle.bodies.specs.Pose.{world_of}
-use Rattle.drawing.proofs.Segments.{drawn-held, rows-turn, first-row, next_row, drawn-end}
+use Rattle.drawing.proofs.Segments.{drawn-held, drawn-counted, rows-turn, first-row, next_row, drawn-end}
 use Rattle.drawing.proofs.draw_seg.Goals as goal
 
 pub loop-k-init : goal.loop-k-init
@@ -18,13 +18,13 @@ overflow_add-at c = let h = (drawn-held c.args.s c.drawn-d.ensures).0 in omega a
 
 pub offset_bounds-points-at : goal.offset_bounds-points-at
 offset_bounds-points-at c =
-    let h = (drawn-held c.args.s c.drawn-d.ensures).0 in
+    let h = drawn-counted c.args.s c.drawn-d.ensures in
     let w = c.loop-k.invariant.long in
     omega arith
 
 pub bounds-points-at : goal.bounds-points-at
 bounds-points-at c =
-    let h = (drawn-held c.args.s c.drawn-d.ensures).0 in
+    let h = drawn-counted c.args.s c.drawn-d.ensures in
     let w = c.loop-k.invariant.long in
     omega arith
 

@@ -7,4 +7,5 @@ use Rattle.drawing.specs.Drawing.{row_of}
 use Rattle.drawing.proofs.draw_seg.Given as goal
 
 abbrev pub invariant-loop-k : goal.invariant-loop-k
-invariant-loop-k l = Writing l.initial.points l.at (map row_of (map (world_of l.place) (take l.d.count l.d.points))) l.points (l.at + l.k) (map row_of (map (world_of l.place) (drop l.k (take l.d.count l.d.points))))
+invariant-loop-k l = Writing l.initial.points l.at (map row_of (map (world_of l.place) (take l.d.count l.d.points))) l.points (l.at + l.k)
+    (map row_of (map (world_of l.place) (drop l.k (take l.d.count l.d.points))))

@@ -21,12 +21,14 @@ bounds-u-k c = let h = c.ranges-k-end.ensures.0 in omega arith
 pub returns-then-is_sampled : goal.returns-then-is_sampled
 returns-then-is_sampled c =
     let s = c in
-    sym (any-yes (λ r. is_sampled (part_at s.args.ps r.part)) (range_at s.args.u) _ c.loop-k.k (omega arith) (ap is_sampled (sym c.part_at.ensures) ∙ sym c.is_sampled.ensures ∙ c.if-is_sampled.true)) ∙ c.loop-k.invariant
+    sym (any-yes (λ r. is_sampled (part_at s.args.ps r.part)) (range_at s.args.u) _ c.loop-k.k (omega arith)
+    (ap is_sampled (sym c.part_at.ensures) ∙ sym c.is_sampled.ensures ∙ c.if-is_sampled.true)) ∙ c.loop-k.invariant
 
 pub loop-k-preserved : goal.loop-k-preserved
 loop-k-preserved c =
     let s = c in
-    sym (any-no (λ r. is_sampled (part_at s.args.ps r.part)) (range_at s.args.u) _ c.loop-k.k (omega arith) (ap is_sampled (sym c.part_at.ensures) ∙ sym c.is_sampled.ensures ∙ c.if-is_sampled.false)) ∙ c.loop-k.invariant
+    sym (any-no (λ r. is_sampled (part_at s.args.ps r.part)) (range_at s.args.u) _ c.loop-k.k (omega arith)
+    (ap is_sampled (sym c.part_at.ensures) ∙ sym c.is_sampled.ensures ∙ c.if-is_sampled.false)) ∙ c.loop-k.invariant
 
 pub returns : goal.returns
 returns c =

@@ -13,7 +13,9 @@ bounds-what-i c = let k = c.loop-i.invariant.long in omega arith
 pub loop-i-preserved : goal.loop-i-preserved
 loop-i-preserved c =
     let s = c in
-    fill_put (omega arith) (what_turn s.args.ps s.args.u s.args.cuts c.loop-i.i _ (omega arith) (what_at s.args.ps s.args.u s.args.cuts c.loop-i.i c.what_is.ensures c.body_of_side-body.ensures c.has_own-own.ensures c.is_sampled.ensures c.is_own.ensures c.is_read_cut.ensures)) c.loop-i.invariant
+    fill_put (omega arith) (what_turn s.args.ps s.args.u s.args.cuts c.loop-i.i _ (omega arith)
+    (what_at s.args.ps s.args.u s.args.cuts c.loop-i.i c.what_is.ensures c.body_of_side-body.ensures c.has_own-own.ensures c.is_sampled.ensures
+    c.is_own.ensures c.is_read_cut.ensures)) c.loop-i.invariant
 
 pub returns : goal.returns
 returns c =

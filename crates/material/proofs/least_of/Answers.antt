@@ -13,15 +13,16 @@ use Rattle.laws.proofs.Lists.{fold_on, fold_done}
 use Rattle.ieee.specs.Num.{min_of}
 use Rattle.ieee.proofs.MinRoot.{min_numbers, min_number}
 use Rattle.geometry.specs.declared.Point.{Point}
-use Rattle.material.specs.Material.{square_of, edges_of, point_of, points_of, Serves}
-use Rattle.material.proofs.Parts.{row_edge, edges-of-rows, least_in}
+use Rattle.material.specs.Material.{square_of, edges_of, point_of, points_of, Serves, least_in}
+use Rattle.material.proofs.Parts.{row_edge, edges-of-rows}
 use Rattle.material.proofs.Serves.{of_edge, edge-keeps, comes-early}
 use Rattle.material.proofs.least_of.Goals as goal
 
 -- a turn of the loop: the edge i is looked at
 module _ (poly : List (List Float)) (p : Point) (from best : Float) (i : ℕ) (h : i < length poly) (number : is_nan best ≡ false)
     (inv : least_in p best (list_in (row_edge poly) (length poly - i) i) ≡ least_in p from (list_in (row_edge poly) (length poly) 0))
-    {j : ℕ} {q next : Float} (wrapped : j ≡ (i + 1) % length poly) (squared : q ≡ square_of p (record { a = point_of (get_or poly i []); b = point_of (get_or poly j []) })) (chosen : next ≡ cond (lt q best) q best) where
+    {j : ℕ} {q next : Float} (wrapped : j ≡ (i + 1) % length poly)
+    (squared : q ≡ square_of p (record { a = point_of (get_or poly i []); b = point_of (get_or poly j []) })) (chosen : next ≡ cond (lt q best) q best) where
   taken : min_of best (square_of p (row_edge poly i)) ≡ next
   taken =
       ap (min_of best) (sym (squared ∙ ap (λ (j : ℕ). square_of p (record { a = point_of (get_or poly i []); b = point_of (get_or poly j []) })) wrapped))

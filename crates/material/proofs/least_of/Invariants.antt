@@ -4,7 +4,8 @@ use mathlib.Core.Bool.{false}
 use lib.ListN.{length}
 use lib.Ieee.{is_nan}
 use Rattle.laws.specs.Lists.{list_in}
-use Rattle.material.proofs.Parts.{row_edge, least_in}
+use Rattle.material.specs.Material.{least_in}
+use Rattle.material.proofs.Parts.{row_edge}
 use Rattle.material.proofs.least_of.Given as goal
 
 abbrev pub invariant-loop-i : goal.invariant-loop-i

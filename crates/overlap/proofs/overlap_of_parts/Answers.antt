@@ -4,19 +4,18 @@ use lib.ListN.{replicate}
 use Rattle.std.proofs.Common.{rules, tests}
 use Rattle.ieee.specs.Consts.{zero_f}
 use Rattle.mechanism.specs.Segments.{outlines_in}
-use Rattle.mechanism.proofs.Known.{outlines-long}
 use Rattle.drawing.proofs.Laid.{counted-few}
 use Rattle.overlap.specs.Overlap.{is_in}
 use Rattle.overlap.proofs.Pairwise.{sunk_parts, parts-both}
 use Rattle.overlap.proofs.Same.{put-asks, parts-put}
 use Rattle.overlap.proofs.overlap_of_parts.Goals as goal
 
-pub sunk_both-s-requires : goal.sunk_both-s-requires
-sunk_both-s-requires c =
+pub sunk_between-s-requires : goal.sunk_between-s-requires
+sunk_between-s-requires c =
     let s = c in
     let k = c.segs_counted.ensures in
-    let n = counted-few s.args.ps s.requires.0 in
-    let a = put-asks s.args.ps s.args.o (replicate 384 (replicate 8 zero_f)) 384 refl k k.1 c.put_segs.ensures in
+    let n = counted-few s.args.m.now.parts s.requires.0 in
+    let a = put-asks s.args.m.now.parts s.args.m.now.outlines (replicate 384 (replicate 8 zero_f)) 384 refl k k.1 c.put_segs.ensures in
     let x = a.0 in
     let y = a.1 in
     let z = a.2 in
@@ -27,10 +26,10 @@ returns c =
     let s = c in
     let k = c.segs_counted.ensures in
     let o = outlines_in c.put_segs.new.out in
-    let two = c.sunk_both-s.ensures in
+    let two = c.sunk_between-s.ensures in
     let wa = c.owners_of-wa.ensures (is_in s.args.a.now) (λ i r h k. search (rules, tests)) in
     let wb = c.owners_of-wb.ensures (is_in s.args.b.now) (λ i r h k. search (rules, tests)) in
-    parts-put s.args.ps s.args.o (replicate 384 (replicate 8 zero_f)) (outlines-long s.args.o _ s.well_formed.1.0) k k.1 c.put_segs.ensures s.args.q s.args.a.now s.args.b.now
-    (parts-both s.args.ps o s.args.q s.args.a.now s.args.b.now c.max.ensures
-    (sunk_parts s.args.ps o s.args.q s.requires.0 s.args.a.now s.args.b.now s.requires.1 s.requires.2 two.0 wa c.owners_chosen-2.ensures wb)
-    (sunk_parts s.args.ps o s.args.q s.requires.0 s.args.b.now s.args.a.now s.requires.2 s.requires.1 two.1 wb c.owners_chosen.ensures wa))
+    parts-put s.args.m.now.parts s.args.m.now.outlines (replicate 384 (replicate 8 zero_f)) s.requires.3 k k.1 c.put_segs.ensures s.args.q s.args.a.now s.args.b.now
+    (parts-both s.args.m.now.parts o s.args.q s.args.a.now s.args.b.now c.max.ensures
+    (sunk_parts s.args.m.now.parts o s.args.q s.requires.0 s.args.a.now s.args.b.now s.requires.1 s.requires.2 two.0 wa c.owners_chosen-2.ensures wb)
+    (sunk_parts s.args.m.now.parts o s.args.q s.requires.0 s.args.b.now s.args.a.now s.requires.2 s.requires.1 two.1 wb c.owners_chosen.ensures wa))

@@ -10,14 +10,14 @@ pub overlap_of_drawn-requires : goal.overlap_of_drawn-requires
 overlap_of_drawn-requires c =
     let s = c in
     let drawn = sym c.pair_drawn.ensures ∙ c.if-pair_drawn.true in
-    let k = counted-few s.args.ps (are_drawn s.args.ps s.args.p drawn).0 in
+    let k = counted-few s.args.ps.now (are_drawn s.args.ps.now s.args.p drawn).0 in
     let x = s.requires.0 in
     let y = s.requires.1 in
     let z = s.requires.2 in
     (drawn, omega (arith, k, x), omega (arith, k, y), omega (arith, k, z))
 
 pub returns-then-pair_drawn : goal.returns-then-pair_drawn
-returns-then-pair_drawn c = let s = c in pair-drawn-is s.args.ps (outlines_in s.args.segs.now) s.args.q s.args.p c.pair_drawn.ensures c.if-pair_drawn.true c.overlap_of_drawn.ensures
+returns-then-pair_drawn c = let s = c in pair-drawn-is s.args.ps.now (outlines_in s.args.segs.now) s.args.q s.args.p c.pair_drawn.ensures c.if-pair_drawn.true c.overlap_of_drawn.ensures
 
 pub returns : goal.returns
-returns c = let s = c in pair-not_drawn s.args.ps (outlines_in s.args.segs.now) s.args.q s.args.p c.pair_drawn.ensures c.if-pair_drawn.false
+returns c = let s = c in pair-not_drawn s.args.ps.now (outlines_in s.args.segs.now) s.args.q s.args.p c.pair_drawn.ensures c.if-pair_drawn.false

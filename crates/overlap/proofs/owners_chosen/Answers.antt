@@ -12,9 +12,9 @@ pub loop-i-preserved : goal.loop-i-preserved
 loop-i-preserved c =
     let s = c.args in
     let e = c.what_is.ensures ∙ ap (what_is (owner_at s.w c.loop-i.i)) (ap₂ ◌&&◌ c.is_read_cut.ensures c.any_on.ensures) in
-    fill_put c.loop-i-test.true (flag_turn (choice_of s.ps s.w) c.loop-i.i _ (omega arith) e) c.loop-i.invariant
+    fill_put c.loop-i-test.true (flag_turn (choice_of s.ps.now s.w) c.loop-i.i _ (omega arith) e) c.loop-i.invariant
 
 pub returns : goal.returns
 returns c =
     let s = c.args in
-    ap (λ l. record { what = l }) (flags_done (choice_of s.ps s.w) (omega arith) c.loop-i.invariant)
+    ap (λ l. record { what = l }) (flags_done (choice_of s.ps.now s.w) (omega arith) c.loop-i.invariant)

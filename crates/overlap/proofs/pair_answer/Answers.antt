@@ -13,16 +13,16 @@ use Rattle.bodies.specs.Check.{Checked}
 pub pair_at-p-requires : goal.pair_at-p-requires
 pair_at-p-requires c =
     let s = c.args in
-    let called = c.then_called.ensures ∙ ap (λ (k : Checked). then_called k c.fits.result (ltb s.pair s.pairs.count) true) c.check_in.ensures in
-    pair-there (described s.b s.ps s.segs.now s.pairs) s.q c.fits.ensures s.pair called c.in_ok-then_called.was
+    let called = c.then_called.ensures ∙ ap (λ (k : Checked). then_called k c.fits.result (ltb s.pair s.m.now.pairs.count) true) c.check_in.ensures in
+    pair-there (described s.m.now.bodies s.m.now.parts s.segs.now s.m.now.pairs) s.q c.fits.ensures s.pair called c.in_ok-then_called.was
 
 pub overlap_of_drawn-requires : goal.overlap_of_drawn-requires
 overlap_of_drawn-requires c =
     let s = c.args in
-    let m = described s.b s.ps s.segs.now s.pairs in
-    let called = c.then_called.ensures ∙ ap (λ (k : Checked). then_called k c.fits.result (ltb s.pair s.pairs.count) true) c.check_in.ensures in
+    let m = described s.m.now.bodies s.m.now.parts s.segs.now s.m.now.pairs in
+    let called = c.then_called.ensures ∙ ap (λ (k : Checked). then_called k c.fits.result (ltb s.pair s.m.now.pairs.count) true) c.check_in.ensures in
     let taken = c.in_ok-then_called.was in
-    let k = counted-few s.ps (pair-few m s.q c.fits.ensures s.pair called taken) in
+    let k = counted-few s.m.now.parts (pair-few m s.q c.fits.ensures s.pair called taken) in
     let x = c.requires.0 in
     let y = c.requires.1 in
     let z = c.requires.2 in
@@ -31,12 +31,12 @@ overlap_of_drawn-requires c =
 pub returns-in_err-then_called : goal.returns-in_err-then_called
 returns-in_err-then_called c =
     let s = c.args in
-    let called = c.then_called.ensures ∙ ap (λ (k : Checked). then_called k c.fits.result (ltb s.pair s.pairs.count) true) c.check_in.ensures in
+    let called = c.then_called.ensures ∙ ap (λ (k : Checked). then_called k c.fits.result (ltb s.pair s.m.now.pairs.count) true) c.check_in.ensures in
     let p = err_from_is_err_and c.from_residual.result c.from_residual.ensures.1 in
-    rw (p.1, p.2) (pair-refused (described s.b s.ps s.segs.now s.pairs) s.q c.fits.ensures s.pair called c.in_err-then_called.was)
+    rw (p.1, p.2) (pair-refused (described s.m.now.bodies s.m.now.parts s.segs.now s.m.now.pairs) s.q c.fits.ensures s.pair called c.in_err-then_called.was)
 
 pub returns : goal.returns
 returns c =
     let s = c.args in
-    let called = c.then_called.ensures ∙ ap (λ (k : Checked). then_called k c.fits.result (ltb s.pair s.pairs.count) true) c.check_in.ensures in
-    pair-answered (described s.b s.ps s.segs.now s.pairs) s.q c.fits.ensures s.pair called c.in_ok-then_called.was c.overlap_of_drawn.ensures c.pair_at-p.ensures
+    let called = c.then_called.ensures ∙ ap (λ (k : Checked). then_called k c.fits.result (ltb s.pair s.m.now.pairs.count) true) c.check_in.ensures in
+    pair-answered (described s.m.now.bodies s.m.now.parts s.segs.now s.m.now.pairs) s.q c.fits.ensures s.pair called c.in_ok-then_called.was c.overlap_of_drawn.ensures c.pair_at-p.ensures

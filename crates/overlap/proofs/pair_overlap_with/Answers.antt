@@ -3,7 +3,6 @@ use mathlib.Core.Path.{sym, subst}
 use Prim.Native.Nat.{ℕ, ◌≤◌}
 use lib.ListN.{replicate, length-replicate}
 use Rattle.ieee.specs.Consts.{zero_f}
-use Rattle.mechanism.proofs.Known.{description_long}
 use Rattle.overlap.proofs.Same.{answer-put}
 use Rattle.overlap.proofs.pair_overlap_with.Goals as goal
 
@@ -11,4 +10,4 @@ pub returns : goal.returns
 returns g c =
     let k = c.segs_counted.ensures in
     let room = subst (λ (n : ℕ). c.segs_counted.result ≤ n) (sym (length-replicate g.row.SEGS (replicate 8 zero_f))) (omega (arith, k.0, c.requires.0)) in
-    answer-put c.args.m (replicate g.row.SEGS (replicate 8 zero_f)) (description_long c.args.m _ c.well_formed.0) k room c.put_segs.ensures c.args.q c.args.pair c.pair_answer.ensures
+    answer-put c.args.m.now (replicate g.row.SEGS (replicate 8 zero_f)) c.requires.6 k room c.put_segs.ensures c.args.q c.args.pair c.pair_answer.ensures

@@ -1,6 +1,10 @@
 use native.Mathlib.Omega.{arith}
 use mathlib.Core.Path.{◌∙◌, ap}
+use mathlib.Core.List.{List}
+use lib.Ieee.{Float}
 use lib.Seq.{sets}
+use Rattle.geometry.specs.declared.Point.{Point}
+use Rattle.pair_rows.specs.PairRows.{along_of, left_of}
 use Rattle.pair_rows.proofs.Along.{found-few, along-found, next_row}
 use Rattle.pair_rows.proofs.put_columns.Goals as goal
 
@@ -18,7 +22,8 @@ put_along-requires-2 c = (next_row c.args.at c.args.bodies.coords _ c.requires.1
 
 pub returns : goal.returns
 returns c =
-    let s = c.args in (
-      c.put_along.ensures ∙ ap (sets _ _) (along-found s.bodies s.q _ _ _ _ _ _ c.columns_at-ka.ensures c.columns_at-kb.ensures),
-      c.put_along-2.ensures ∙ ap (sets _ _) (along-found s.bodies s.q _ _ _ _ _ _ c.columns_at-ka.ensures c.columns_at-kb.ensures),
+    let s = c.args in
+    let along : Point → List Float = λ v. along_of s.bodies s.q v s.c.near.point s.s.a s.s.b in (
+      c.put_along.ensures ∙ ap (sets _ _) (along-found s.bodies s.q _ _ _ _ _ _ c.columns_at-ka.ensures c.columns_at-kb.ensures ∙ ap along c.vector-n.ensures),
+      c.put_along-2.ensures ∙ ap (sets _ _) (along-found s.bodies s.q _ _ _ _ _ _ c.columns_at-ka.ensures c.columns_at-kb.ensures ∙ ap (λ v. along (left_of v)) c.vector-n.ensures),
     )

@@ -1,12 +1,20 @@
-use mathlib.Core.Path.{refl}
-use Rattle.strips.specs.Strips.{row_a, row_b}
-use Rattle.prepared_rows.proofs.FromRows.{put-from, body_read}
+use mathlib.Core.Path.{sym, ap, ◌∙◌}
+use lib.Seq.{length-take-le}
+use Rattle.strips.specs.Strips.{table_rows, side_at}
+use Rattle.prepared_rows.proofs.FromRows.{written-few, put-from}
 use Rattle.prepared_rows.proofs.put_pair_by.Goals as goal
+
+pub slice_bounds-put_shown-end : goal.slice_bounds-put_shown-end
+slice_bounds-put_shown-end c = written-few (table_rows c.args.t.now) c.args.q c.args.i c.requires.3 c.pair_candidates_in-n.ensures
+
+pub slice_bounds-put_shown-end-2 : goal.slice_bounds-put_shown-end-2
+slice_bounds-put_shown-end-2 c = sym (length-take-le _ _ (written-few (table_rows c.args.t.now) c.args.q c.args.i c.requires.3 c.pair_candidates_in-n.ensures))
 
 pub returns : goal.returns
 returns c =
-    let s = c in
-    let a = s.args in
-    put-from a.faces.now a.fnames.now a.discs.now a.dnames.now a.sides.now a.centers.now a.choices.now a.drawn.now a.parts.now a.q a.i a.bodies a.margin s.requires.3 s.requires.4 c.pair_candidates_in-n.ensures _ refl
-    (body_read a.sides.now (row_a a.i) c.side_at-a.ensures.0 c.row_a.ensures)
-    (body_read a.sides.now (row_b a.i) c.side_at-b.ensures.0 c.row_b.ensures) s.requires.0 s.requires.1 s.requires.2 s.requires.5 c.put_shown.ensures
+    let a = c.args in
+    let t = table_rows a.t.now in
+    put-from t a.q a.i c.requires.3 c.pair_candidates_in-n.ensures a.bodies a.margin
+    (ap (λ f. f.body) c.facts.ensures.0 ∙ ap (λ k. (side_at t k).body) c.row_a.ensures)
+    (ap (λ f. f.body) c.facts-2.ensures.0 ∙ ap (λ k. (side_at t k).body) c.row_b.ensures)
+    c.requires.0 c.requires.1 c.requires.2 c.requires.4 c.put_shown.ensures.written

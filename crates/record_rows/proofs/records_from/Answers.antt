@@ -17,7 +17,7 @@ pub loop-i-preserved : goal.loop-i-preserved
 loop-i-preserved c =
     let s = c.args in
     let turned = list_turn (row_at s.places.now s.values.now) s.n c.loop-i.i (omega arith) in
-    fill_put (omega arith) (turned ∙ ap (λ r. r ∷ list_in (row_at s.places.now s.values.now) (s.n - (c.loop-i.i + 1)) (c.loop-i.i + 1)) (sym c.row_from.ensures)) c.loop-i.invariant
+    fill_put (omega arith) (turned ∙ ap (λ r. r ∷ list_in (row_at s.places.now s.values.now) (s.n - (c.loop-i.i + 1)) (c.loop-i.i + 1)) (sym c.from.ensures)) c.loop-i.invariant
 
 pub returns : goal.returns
 returns c =

@@ -7,9 +7,9 @@ use Rattle.row_records.proofs.Put.{put-none, put-more}
 use Rattle.row_records.proofs.put_records.Goals as goal
 
 pub loop-i-init : goal.loop-i-init
-loop-i-init c = put-none (row_at c.args.places.now c.args.values.now) c.args.out.now
+loop-i-init c = put-none (row_at c.args.rows.now.places.now c.args.rows.now.values.now) c.args.out.now
 
 pub loop-i-preserved : goal.loop-i-preserved
 loop-i-preserved c =
-    ap₂ (λ (l : List Row) (r : Row). set l c.loop-i.i r) c.loop-i.invariant c.record_at.ensures
-    ∙ put-more (row_at c.args.places.now c.args.values.now) c.args.out.now c.loop-i.i
+    ap₂ (λ (l : List Row) (r : Row). set l c.loop-i.i r) c.loop-i.invariant c.row.ensures
+    ∙ put-more (row_at c.args.rows.now.places.now c.args.rows.now.values.now) c.args.out.now c.loop-i.i

@@ -27,7 +27,8 @@ pub returns-in_err-call_checked : goal.returns-in_err-call_checked
 returns-in_err-call_checked c =
     let s = c.args in
     let p = err_from_is_err_and c.from_residual.result c.from_residual.ensures.1 in
-    rw (p.1, p.2) (sym (all-refused s.m s.q s.places s.values s.grad s.slip _ (ap (λ f. call_checked s.m f true true) (sym c.fits.ensures) ∙ sym c.call_checked.ensures ∙ c.in_err-call_checked.was)))
+    let e = ap (λ f. call_checked s.m f true true) (sym c.fits.ensures) ∙ sym c.call_checked.ensures ∙ c.in_err-call_checked.was in
+    rw (p.1, p.2) (sym (all-refused s.m s.q s.places s.values s.grad s.slip _ e))
 
 pub returns : goal.returns
 returns c =

@@ -33,4 +33,5 @@ pub returns : goal.returns
 returns c =
     let s = c in
     let l = silhouette_long s.args.sil _ s.well_formed.1.0 in
-    backward_run s.args.range s.args.sil c.backward_steps-s.result (omega arith) s.requires.0 s.requires.1 c.backward_steps-s.ensures.0 c.run_back.result c.run_back-2.result c.backward_steps-s.ensures.1 c.run_back.ensures c.run_back-2.ensures
+    backward_run s.args.range s.args.sil c.backward_steps-s.result (omega arith) s.requires.0 s.requires.1 c.backward_steps-s.ensures.0
+    c.run_back.result c.run_back-2.result c.backward_steps-s.ensures.1 c.run_back.ensures c.run_back-2.ensures

@@ -24,7 +24,10 @@ loop-i-preserved c =
     let n : s.sil.count ≤ length s.sil.seg = omega arith in
     let e : i - s.first + 1 ≡ i + 1 - s.first = omega arith in
     rw (← e)
-    (fill_put (omega arith) (ap (map (F.forward_step (segs_in s.sil))) (range-turn i s.past c.loop-i-test.true) ∙ ap (λ x. x ∷ map (F.forward_step (segs_in s.sil)) (range (i + 1) s.past)) (forward_at s.sil i n (omega arith))) c.loop-i.invariant)
+    (fill_put (omega arith)
+    (ap (map (F.forward_step (segs_in s.sil))) (range-turn i s.past c.loop-i-test.true)
+    ∙ ap (λ x. x ∷ map (F.forward_step (segs_in s.sil)) (range (i + 1) s.past)) (forward_at s.sil i n (omega arith)))
+    c.loop-i.invariant)
 
 pub returns : goal.returns
 returns c =

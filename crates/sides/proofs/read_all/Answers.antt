@@ -42,7 +42,12 @@ loop-k-preserved c =
     let e = sym (run_at_lem ts c.loop-k.k c.loop-k-test.true) in
     let a = c.last_before.ensures in
     let b = c.first_after.ensures in
-    grown-as (sym (join_more (F.faces_of_range (F.runs_in ts)) c.loop-k.k)) (sym (join_more (F.discs_of_range (F.runs_in ts)) c.loop-k.k)) (grown-then c.loop-k.invariant (grown-as (ap F.range_faces e) (ap (λ t. F.range_discs t c.last_before.result c.first_after.result) e ∙ ap (λ x. F.range_discs (F.run_at (F.runs_in ts) c.loop-k.k) x c.first_after.result) a ∙ ap (F.range_discs (F.run_at (F.runs_in ts) c.loop-k.k) (F.last_before (F.runs_in ts) c.loop-k.k)) b) c.read_range-f.ensures))
+    grown-as (sym (join_more (F.faces_of_range (F.runs_in ts)) c.loop-k.k)) (sym (join_more (F.discs_of_range (F.runs_in ts)) c.loop-k.k))
+    (grown-then c.loop-k.invariant
+    (grown-as (ap F.range_faces e)
+    (ap (λ t. F.range_discs t c.last_before.result c.first_after.result) e ∙ ap (λ x. F.range_discs (F.run_at (F.runs_in ts) c.loop-k.k) x c.first_after.result) a
+    ∙ ap (F.range_discs (F.run_at (F.runs_in ts) c.loop-k.k) (F.last_before (F.runs_in ts) c.loop-k.k)) b)
+    c.read_range-f.ensures))
 
 pub returns : goal.returns
 unfolding faces_of discs_of
@@ -52,4 +57,5 @@ returns c =
     let m = runs_long ts _ s.well_formed.0 in
     let n = runs_count ts (omega arith) in
     let e : c.loop-k.k ≡ length (F.runs_in ts) = omega arith in
-    grown-all c.no_features-f.ensures (ap (λ k. join_in (F.faces_of_range (F.runs_in ts)) k 0) e) (ap (λ k. join_in (F.discs_of_range (F.runs_in ts)) k 0) e) c.loop-k.invariant
+    let g = grown-all c.no_features-f.ensures (ap (λ k. join_in (F.faces_of_range (F.runs_in ts)) k 0) e) (ap (λ k. join_in (F.discs_of_range (F.runs_in ts)) k 0) e) c.loop-k.invariant in
+    record { faces = (g.0, g.1); discs = (g.2, g.3) }

@@ -29,4 +29,7 @@ returns c =
       | then-meet w ↦ w.first-is ∙ ap (λ b. cond b s.last t.before) (sym w.if-meet.true ∙ e)
       | else-meet w ↦ w.first-is ∙ ap (λ b. cond b s.last t.before) (sym w.if-meet.false ∙ e)
     ] in
-    grown-as (append-nil _) (ap (λ x. join_in (F.step_discs (F.run_of t) x) t.count 0 ++ F.placed_disc (Piece.Vertex t.part t.ends) c.end_disc.result) o ∙ ap (λ x. join_in (F.step_discs (F.run_of t) (F.opening (F.run_of t) s.last)) t.count 0 ++ x) c.end_disc.ensures) (grown-then c.read_steps-g.ensures (search rules))
+    grown-as (append-nil _)
+    (ap (λ x. join_in (F.step_discs (F.run_of t) x) t.count 0 ++ F.placed_disc (Piece.Vertex t.part t.ends) c.end_disc.result) o
+    ∙ ap (λ x. join_in (F.step_discs (F.run_of t) (F.opening (F.run_of t) s.last)) t.count 0 ++ x) c.end_disc.ensures)
+    (grown-then c.read_steps-g.ensures (search rules))

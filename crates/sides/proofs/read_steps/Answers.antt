@@ -29,7 +29,11 @@ loop-i-preserved c =
     let s = c in
     let t = s.args.t in
     let e = sym (step-at t c.loop-i.i c.loop-i-test.true) in
-    grown-as (sym (join_more (step_faces (F.run_of t)) c.loop-i.i)) (sym (join_more (F.step_discs (F.run_of t) s.args.first) c.loop-i.i)) (grown-then c.loop-i.invariant (grown-as (ap (F.faces_at t.part) e) (ap (λ p. F.discs_at t.part t.cut p (get_or t.steps c.loop-i.i F.no_step)) c.previous_at.ensures ∙ ap (F.discs_at t.part t.cut (F.previous_at (F.run_of t) s.args.first c.loop-i.i)) e) c.read_step-g.ensures))
+    grown-as (sym (join_more (step_faces (F.run_of t)) c.loop-i.i)) (sym (join_more (F.step_discs (F.run_of t) s.args.first) c.loop-i.i))
+    (grown-then c.loop-i.invariant
+    (grown-as (ap (F.faces_at t.part) e)
+    (ap (λ p. F.discs_at t.part t.cut p (get_or t.steps c.loop-i.i F.no_step)) c.previous_at.ensures ∙ ap (F.discs_at t.part t.cut (F.previous_at (F.run_of t) s.args.first c.loop-i.i)) e)
+    c.read_step-g.ensures))
 
 pub returns : goal.returns
 unfolding range_faces

@@ -38,5 +38,6 @@ returns c =
     let first = (F.first_range s.u).part in
     let body = (part_at s.ps first).body in
     let ts = F.runs_in c.traversals_of.result in
-    side-by body (Piece.Center first) (F.faces_of ts) (F.discs_of ts) c.read_all-f.ensures c.center_at.ensures
+    let e = c.read_all-f.ensures in
+    side-by body (Piece.Center first) (F.faces_of ts) (F.discs_of ts) (e.faces.0, e.faces.1, e.discs.0, e.discs.1) c.center_at.ensures
     ∙ ap (λ l. F.side_from body (F.faces_of l) (F.discs_of l) (Piece.Center first) (F.center_at s.ps s.o s.u s.wanted)) c.traversals_of.ensures.1

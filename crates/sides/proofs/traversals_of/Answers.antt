@@ -39,7 +39,8 @@ loop-k-preserved c =
     let z = ranges_long s.args.u _ s.well_formed.1.1.0 in
     let b = s.requires.1.ranges in
     let m = c.loop-k.invariant.0 in
-    (length-set c.loop-k.all c.loop-k.k _ ∙ m, runs_more (F.traversal_of s.args.ps s.args.o) c.loop-k.all s.args.u.range c.loop-k.k _ (omega arith) (omega arith) c.traversal_of.ensures c.loop-k.invariant.1)
+    let f = F.traversal_of s.args.ps s.args.o in
+    (length-set c.loop-k.all c.loop-k.k _ ∙ m, runs_more f c.loop-k.all s.args.u.range c.loop-k.k _ (omega arith) (omega arith) c.traversal_of.ensures c.loop-k.invariant.1)
 
 pub returns : goal.returns
 returns c =

@@ -1,9 +1,5 @@
-use native.Mathlib.Omega.{arith}
 use Rattle.tables.proofs.Puts.{of-line-as_is}
 use Rattle.tables.proofs.put_points.Goals as goal
-
-pub put_drawn_seg-requires : goal.put_drawn_seg-requires
-put_drawn_seg-requires c = omega arith
 
 pub returns-in-Line : goal.returns-in-Line
 returns-in-Line c =

@@ -1,4 +1,3 @@
-use native.Mathlib.Omega.{arith}
 use Prim.Native.Nat.{◌+◌}
 use native.Mathlib.Nat.{add-zero}
 use mathlib.Core.Path.{sym, ap, ◌∙◌}
@@ -16,9 +15,6 @@ returns-then-is_mouth c =
     let s = c.args in
     let e = seg-none (mouths_in s.mouths.now) s.s c.start.ensures c.end.ensures c.is_mouth.ensures c.if-is_mouth.true in
     (sym (add-zero s.at) ∙ ap (λ (l : List Point). s.at + length l) (sym e), ap (λ (l : List Point). sets s.out.now s.at (map row_of l)) (sym e))
-
-pub put_points-requires : goal.put_points-requires
-put_points-requires c = omega arith
 
 pub returns : goal.returns
 returns c =

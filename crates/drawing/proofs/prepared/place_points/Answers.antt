@@ -2,7 +2,7 @@ use native.Mathlib.Omega.{arith}
 use mathlib.Core.Path.{ap, ◌∙◌}
 use Rattle.laws.proofs.Writing.{ends}
 use Rattle.bodies.specs.Pose.{world_of}
-use Rattle.strips.specs.Strips.{point_at}
+use Rattle.strips.specs.Strips.{drawn_at, table_rows}
 use Rattle.drawing.proofs.Lays.{row-turn, row_done, row-start}
 use Rattle.drawing.proofs.Segments.{first-row, next_row}
 use Rattle.drawing.proofs.prepared.place_points.Goals as goal
@@ -19,7 +19,8 @@ bounds-points-at c = let w = c.loop-i.invariant.long in omega arith
 pub loop-i-preserved : goal.loop-i-preserved
 loop-i-preserved c =
     let s = c.args in
-    next_row _ c.loop-i.i (row-turn (world_of s.place) (point_at s.drawn.now) s.first s.n c.loop-i.i _ (omega arith) (c.world-p.ensures ∙ ap (world_of s.place) c.point_at.ensures)) c.loop-i.invariant
+    next_row _ c.loop-i.i (row-turn (world_of s.place) (drawn_at (table_rows s.t.now)) s.first s.n c.loop-i.i _ (omega arith)
+    (c.world-p.ensures ∙ ap (world_of s.place) c.drawn_point.ensures)) c.loop-i.invariant
 
 pub shape_of-points : goal.shape_of-points
 shape_of-points c = c.loop-i.invariant.long
@@ -27,4 +28,4 @@ shape_of-points c = c.loop-i.invariant.long
 pub returns : goal.returns
 returns c =
     let s = c.args in
-    ends (row_done (world_of s.place) (point_at s.drawn.now) s.first s.n c.loop-i.i (omega arith)) c.loop-i.invariant
+    ends (row_done (world_of s.place) (drawn_at (table_rows s.t.now)) s.first s.n c.loop-i.i (omega arith)) c.loop-i.invariant

@@ -17,12 +17,14 @@ loop-m-init c =
 pub returns-then-same_ends : goal.returns-then-same_ends
 returns-then-same_ends c =
     let s = c.args in
-    sym (any-yes (same_ends (record { a = s.a; b = s.b })) (λ j. mouth_in (get_or s.mouths.now j [])) (length s.mouths.now) c.loop-m.m-index (omega arith) (sym c.same_ends.ensures ∙ c.if-same_ends.true)) ∙ c.loop-m.invariant
+    sym (any-yes (same_ends (record { a = s.a; b = s.b })) (λ j. mouth_in (get_or s.mouths.now j [])) (length s.mouths.now) c.loop-m.m-index (omega arith)
+    (sym c.same_ends.ensures ∙ c.if-same_ends.true)) ∙ c.loop-m.invariant
 
 pub loop-m-preserved : goal.loop-m-preserved
 loop-m-preserved c =
     let s = c.args in
-    sym (any-no (same_ends (record { a = s.a; b = s.b })) (λ j. mouth_in (get_or s.mouths.now j [])) (length s.mouths.now) c.loop-m.m-index (omega arith) (sym c.same_ends.ensures ∙ c.if-same_ends.false)) ∙ c.loop-m.invariant
+    sym (any-no (same_ends (record { a = s.a; b = s.b })) (λ j. mouth_in (get_or s.mouths.now j [])) (length s.mouths.now) c.loop-m.m-index (omega arith)
+    (sym c.same_ends.ensures ∙ c.if-same_ends.false)) ∙ c.loop-m.invariant
 
 pub returns : goal.returns
 returns c =

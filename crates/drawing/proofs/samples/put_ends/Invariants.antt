@@ -8,4 +8,5 @@ use Rattle.drawing.specs.Samples.{ends_of, mouth_row}
 use Rattle.drawing.proofs.samples.put_ends.Given as goal
 
 abbrev pub invariant-loop-i : goal.invariant-loop-i
-invariant-loop-i l = Writing l.initial.mouths l.at (map mouth_row (map ends_of (silhouette_from (outlines_in l.segs) l.first l.p))) l.mouths (l.at + l.i) (map mouth_row (map ends_of (drop l.i (silhouette_from (outlines_in l.segs) l.first l.p))))
+invariant-loop-i l = Writing l.initial.mouths l.at (map mouth_row (map ends_of (silhouette_from (outlines_in l.segs) l.first l.p))) l.mouths (l.at + l.i)
+    (map mouth_row (map ends_of (drop l.i (silhouette_from (outlines_in l.segs) l.first l.p))))

@@ -1,4 +1,3 @@
-use native.Mathlib.Omega.{arith}
 use Prim.Native.Nat.{◌+◌}
 use native.Mathlib.Nat.{add-zero}
 use mathlib.Core.Path.{sym, ap, ◌∙◌}
@@ -18,11 +17,11 @@ returns-then-is_mouth c =
     let e = seg-none (mouths_in s.mouths.now) s.s c.start.ensures c.end.ensures c.is_mouth.ensures c.if-is_mouth.true in
     (sym (add-zero s.at) ∙ ap (λ (l : List Point). s.at + length l) (sym e), ap (λ (l : List Point). sets s.samples.now s.at (map row_of (map (world_of s.place) l))) (sym e))
 
-pub put_points-requires : goal.put_points-requires
-put_points-requires c = omega arith
-
 pub returns : goal.returns
 returns c =
     let s = c.args in
-    let e = seg-some (mouths_in s.mouths.now) s.s c.start.ensures c.end.ensures c.is_mouth.ensures c.if-is_mouth.false in
-    (c.put_points.ensures.0 ∙ ap (λ (l : List Point). s.at + length l) (sym e), c.put_points.ensures.1 ∙ ap (λ (l : List Point). sets s.samples.now s.at (map row_of (map (world_of s.place) l))) (sym e))
+    let e = seg-some (mouths_in s.mouths.now) s.s c.start.ensures c.end.ensures c.is_mouth.ensures c.if-is_mouth.false in (
+      c.put_points.ensures.0 ∙ ap (λ (l : List Point). s.at + length l) (sym e),
+      c.put_points.ensures.1
+          ∙ ap (λ (l : List Point). sets s.samples.now s.at (map row_of (map (world_of s.place) l))) (sym e),
+    )

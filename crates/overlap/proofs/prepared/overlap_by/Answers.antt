@@ -1,29 +1,22 @@
-use mathlib.Core.Path.{refl}
-use Rattle.overlap.proofs.Drawn.{points_within, starts-within, depth_is}
-use Rattle.overlap.proofs.Lent.{zeros}
+use native.Mathlib.Omega.{arith}
+use mathlib.Core.Path.{ap, ◌∙◌}
+use lib.ListN.{replicate}
+use Rattle.material.specs.Material.{Material, depth_of}
+use Rattle.strips.specs.Strips.{table_rows}
+use Rattle.drawing.proofs.Held.{held-in}
 use Rattle.overlap.proofs.PairRows.{pair-features, pair-center}
 use Rattle.overlap.proofs.prepared.overlap_by.Goals as goal
 
-pub returns-then-s-eq0 : goal.returns-then-s-eq0
-returns-then-s-eq0 c =
+pub returns-then-facts-eq0 : goal.returns-then-facts-eq0
+returns-then-facts-eq0 c =
     let s = c in
-    let a = s.args in
-    pair-features a.drawn.now a.sampled.now a.parts.now a.choices.now a.q a.sides.now a.centers.now a.pair s.requires.1
-    c.row_a-a.ensures c.row_b-b.ensures c.side_at-s.ensures.0 c.if-s-eq0.true c.sunk_both.ensures
-
-pub depth_drawn-requires : goal.depth_drawn-requires
-depth_drawn-requires c =
-    let s = c in
-    let a = s.args in (
-      points_within a.drawn.now a.parts.now a.q c.choice_at-c.result a.points.now zeros s.requires.0 refl c.draw_in-n.ensures,
-      starts-within a.drawn.now a.parts.now a.q c.choice_at-c.result a.points.now zeros s.requires.0 refl c.draw_in-n.ensures,
-    )
+    pair-features (table_rows s.args.t.now) s.args.q s.args.pair s.requires.1 c.row_a-a.ensures c.row_b-b.ensures c.facts.ensures.0 c.if-facts-eq0.true c.sunk_sides.ensures
 
 pub returns : goal.returns
 returns c =
     let s = c in
-    let a = s.args in
-    let d = depth_is a.drawn.now a.parts.now a.q c.choice_at-c.result a.points.now zeros s.requires.0 refl c.draw_in-n.ensures c.world.result c.depth_drawn.ensures in
-    pair-center a.drawn.now a.sampled.now a.parts.now a.choices.now a.q a.sides.now a.centers.now a.pair s.requires.1
-    c.row_a-a.ensures c.row_b-b.ensures c.side_at-s.ensures.0 c.if-s-eq0.false d c.choice_at-c.ensures c.row_of_material.ensures
-    c.world.ensures c.point_at.ensures c.placement_at-place.ensures c.side_at-t.ensures.0
+    let t = table_rows s.args.t.now in
+    let m = held-in t s.args.q c.choice_at-c.result s.args.points.now (replicate 33 0) s.requires.0 (omega arith) c.draw_in-n.ensures c.held.result c.held.ensures in
+    let d = c.depth.ensures ∙ ap (λ (m : Material). depth_of m c.world.result) m in
+    pair-center t s.args.q s.args.pair s.requires.1 c.row_a-a.ensures c.row_b-b.ensures c.facts.ensures.0 c.if-facts-eq0.false d c.choice_at-c.ensures c.row_of_material.ensures
+    c.world.ensures c.center.ensures c.placement_at-place.ensures c.facts-2.ensures.0

@@ -4,7 +4,7 @@ use Rattle.reading_lines.specs.Readings.{pair_rows_in}
 use Rattle.reading_lines.proofs.LineLaws.{room_as, wrote_as}
 use Rattle.reading_lines.proofs.WholeLaws.{parts-start, parts-room, parts_more, parts-skip, parts-end}
 use Rattle.reading_lines.proofs.whole.pair_rows.Goals as goal
-use Rattle.reading_lines.proofs.whole.pair_rows.Goals.{then-places-j, else-places-j}
+use Rattle.reading_lines.proofs.whole.pair_rows.Goals.{then-rows-j, else-rows-j}
 
 pub loop-j-init : goal.loop-j-init
 unfolding pair_rows_in
@@ -12,15 +12,15 @@ loop-j-init c = parts-start _ _ _ _ c.requires.1
 
 pub row_lines-k-requires : goal.row_lines-k-requires
 row_lines-k-requires c =
-    (c.requires.0, c.loop-j-test.true, room_as (cond_yes _ _ (eq-eqb _ _ c.if-places-j.true)) (parts-room c.loop-j.invariant c.loop-j-test.true))
+    (c.requires.0, c.loop-j-test.true, room_as (cond_yes _ _ (eq-eqb _ _ c.if-rows-j.true)) (parts-room c.loop-j.invariant c.loop-j-test.true))
 
 pub loop-j-preserved : goal.loop-j-preserved
 loop-j-preserved c =
     let p = c.loop-j.invariant in
     let t = c.loop-j-test.true in
-    elim c.if-places-j.branch [
-      | then-places-j w ↦ rw (w.out-is, w.k-is) (parts_more p t (wrote_as (cond_yes _ _ (eq-eqb _ _ w.if-places-j.true)) w.row_lines-k.ensures))
-      | else-places-j w ↦ rw (w.out-is, w.k-is) (parts-skip p t (cond_no _ _ (ne_eqb _ _ w.if-places-j.false)))
+    elim c.if-rows-j.branch [
+      | then-rows-j w ↦ rw (w.out-is, w.k-is) (parts_more p t (wrote_as (cond_yes _ _ (eq-eqb _ _ w.if-rows-j.true)) w.row_lines-k.ensures))
+      | else-rows-j w ↦ rw (w.out-is, w.k-is) (parts-skip p t (cond_no _ _ (ne_eqb _ _ w.if-rows-j.false)))
     ]
 
 pub returns : goal.returns

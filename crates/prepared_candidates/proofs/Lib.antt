@@ -1,4 +1,0 @@
-pub mod Listed
-pub mod Placed
-pub mod Lent
-pub mod Pairs

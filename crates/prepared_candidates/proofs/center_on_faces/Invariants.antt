@@ -1,9 +1,0 @@
-use Prim.Native.Nat.{◌+◌}
-use Rattle.material.specs.Material.{material_of}
-use Rattle.strips.specs.Strips.{face_at, piece_at}
-use Rattle.proximities.specs.Proximities.{read_center}
-use Rattle.prepared_candidates.proofs.Listed.{Listed}
-use Rattle.prepared_candidates.proofs.center_on_faces.Given as goal
-
-abbrev pub invariant-loop-k : goal.invariant-loop-k
-invariant-loop-k l = Listed (read_center (material_of l.points l.starts l.polygons.solids l.polygons.all) l.piece l.c) (λ i. record { piece = piece_at l.names (l.from + i); face = face_at l.faces (0 + i) }) 0 l.to l.k l.initial.near l.near l.initial.named l.named

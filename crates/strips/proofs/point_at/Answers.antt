@@ -1,9 +1,0 @@
-use mathlib.Core.Path.{sym, ap}
-use lib.ListN.{get_or-eq_default}
-use lib.Ieee.{div, of_bits}
-use Rattle.strips.specs.Strips.{point_from}
-use Rattle.strips.proofs.point_at.Goals as goal
-
-pub returns : goal.returns
-unfolding div of_bits
-returns c = ap point_from (sym (get_or-eq_default c.args.points.now _ c.if-i-points.false))
