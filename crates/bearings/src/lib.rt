@@ -14,7 +14,7 @@ pub mod prepared;
 
 use bodies::Problem;
 use bodies::pose::{Placement, Pose, placement_at};
-use faces::along;
+use faces::{Placed, along};
 use geometry::signed::{Face, cross, dot, sub};
 use geometry::{Dir, Point, on_circle};
 use governing::governing_in;
@@ -234,24 +234,24 @@ fn bears_as(how: HowItBears, r: Row, slope: Option<f64>) -> Option<Bearing>
 }
 
 // The stop's face at a disc of its own.
-fn stop_at<S: Side>(b: &S, place: Placement, r: Row) -> Option<Face>
-    ensures { result ≡ stop_at (S.features b.now) place r }
+fn stop_at<S: Side>(b: &Placed<S>, r: Row) -> Option<Face>
+    ensures { result ≡ stop_at (S.features b.now.side.now) b.now.place r }
 {
     let mut ends = [[0.0; 2]; 56];
-    let n = put_ends(&mut ends, b, r.feature.b);
+    let n = put_ends(&mut ends, b.side, r.feature.b);
     let normal = r.normal.vector();
-    best_face(b, &ends[..n], |f| facing(place, normal, f))
+    best_face(b.side, &ends[..n], |f| facing(b.place, normal, f))
 }
 
 // The stop's face under a corner of the key.
-fn stop_under<S: Side>(b: &S, place: Placement, r: Row) -> Option<Face>
-    ensures { result ≡ stop_under (S.features b.now) place r }
+fn stop_under<S: Side>(b: &Placed<S>, r: Row) -> Option<Face>
+    ensures { result ≡ stop_under (S.features b.now.side.now) b.now.place r }
 {
     let piece = r.feature.b;
     if letter(piece) == 0 {
-        return face_named(b, piece);
+        return face_named(b.side, piece);
     }
-    stop_at(b, place, r)
+    stop_at(b, r)
 }
 
 // The middle of the stop's face, or the row's point without one.
@@ -272,30 +272,28 @@ fn toward(place: Placement, stop: Option<Face>, p: Point) -> Point
 }
 
 // The key's face at its corner.
-fn key_at<S: Side>(
-    a: &S,
-    place: Placement,
-    piece: Piece,
-    corner: Point,
-    toward: Point,
-) -> Option<Face>
-    ensures { result ≡ key_at (S.features a.now) place piece corner toward }
+fn key_at<S: Side>(a: &Placed<S>, piece: Piece, corner: Point, toward: Point) -> Option<Face>
+    ensures { result ≡ key_at (S.features a.now.side.now) a.now.place piece corner toward }
 {
     let mut ends = [[0.0; 2]; 56];
-    let n = put_ends(&mut ends, a, piece);
-    best_face(a, &ends[..n], |f| reach(place, corner, toward, f))
+    let n = put_ends(&mut ends, a.side, piece);
+    best_face(a.side, &ends[..n], |f| reach(a.place, corner, toward, f))
 }
 
 // On a corner of the key.
 #[tactic(auto, unfolding(crate::specs::Bearing::corner_bearing))]
-fn corner_bearing<S: Side>(a: &S, pa: Placement, b: &S, pb: Placement, r: Row) -> Option<Bearing>
-    ensures { result ≡ corner_bearing (S.features a.now) pa (S.features b.now) pb r }
+fn corner_bearing<S: Side>(a: &Placed<S>, b: &Placed<S>, r: Row) -> Option<Bearing>
+    ensures { result ≡ corner_bearing (S.features a.now.side.now) a.now.place (S.features b.now.side.now) b.now.place r }
 {
     let piece = r.feature.a;
-    let p = first_end(a, piece)?;
-    let stop = stop_under(b, pb, r);
-    let key = key_at(a, pa, piece, pa.world(p), toward(pb, stop, r.point));
-    bears_as(HowItBears::KeyCorner, r, slope_between(pb, stop, pa, key))
+    let p = first_end(a.side, piece)?;
+    let stop = stop_under(b, r);
+    let key = key_at(a, piece, a.place.world(p), toward(b.place, stop, r.point));
+    bears_as(
+        HowItBears::KeyCorner,
+        r,
+        slope_between(b.place, stop, a.place, key),
+    )
 }
 
 fn edge_on(pa: Placement, key: Face, pb: Placement, stop: Option<Face>, r: Row) -> Option<Bearing>
@@ -315,11 +313,11 @@ fn edge_on(pa: Placement, key: Face, pb: Placement, stop: Option<Face>, r: Row) 
 
 // On an edge of the stop, or flat.
 #[tactic(auto, unfolding(crate::specs::Bearing::edge_bearing))]
-fn edge_bearing<S: Side>(a: &S, pa: Placement, b: &S, pb: Placement, r: Row) -> Option<Bearing>
-    ensures { result ≡ edge_bearing (S.features a.now) pa (S.features b.now) pb r }
+fn edge_bearing<S: Side>(a: &Placed<S>, b: &Placed<S>, r: Row) -> Option<Bearing>
+    ensures { result ≡ edge_bearing (S.features a.now.side.now) a.now.place (S.features b.now.side.now) b.now.place r }
 {
-    let key = face_named(a, r.feature.a)?;
-    edge_on(pa, key, pb, stop_at(b, pb, r), r)
+    let key = face_named(a.side, r.feature.a)?;
+    edge_on(a.place, key, b.place, stop_at(b, r), r)
 }
 
 // How side A bears on side B by a row of theirs.
@@ -327,15 +325,21 @@ fn edge_bearing<S: Side>(a: &S, pa: Placement, b: &S, pb: Placement, r: Row) -> 
 fn bearing<S: Side>(a: &S, b: &S, q: Pose, r: Row) -> Option<Bearing>
     ensures { result ≡ bearing_of (record { a = S.features a.now; b = S.features b.now }) q r }
 {
-    let pa = placement_at(q, a.body());
-    let pb = placement_at(q, b.body());
+    let a = Placed {
+        side: a,
+        place: placement_at(q, a.body()),
+    };
+    let b = Placed {
+        side: b,
+        place: placement_at(q, b.body()),
+    };
     if letter(r.feature.b) == 3 {
         return None;
     }
     if r.feature.a.is_disc() {
-        return corner_bearing(a, pa, b, pb, r);
+        return corner_bearing(&a, &b, r);
     }
-    edge_bearing(a, pa, b, pb, r)
+    edge_bearing(&a, &b, r)
 }
 
 // The same of a pair's features.

@@ -14,7 +14,8 @@ use strips::{row_a, row_b};
 // The bearing by the governing row of the pair.
 #[tactic(auto, unfolding(strips::specs::Strips::pair_in), using(crate::proofs::Answered::by_row))]
 pub fn governed_in(t: &Tables, q: Pose, rows: &ReadRows, pair: usize) -> Option<Bearing>
-    ensures { result ≡ governed_bearing (pair_in (table_rows t.now) pair) q (row_at rows.now.places.now rows.now.values.now) (governing_in rows.now.places.now rows.now.values.now rows.now.count pair) }
+    ensures { result ≡ governed_bearing (pair_in (table_rows t.now) pair) q (row_at rows.now.places.now rows.now.values.now)
+        (governing_in rows.now.places.now rows.now.values.now rows.now.count pair) }
 {
     let r = governing_row(rows, pair)?;
     bearing(&t.side(row_a(pair)), &t.side(row_b(pair)), q, r)

@@ -12,9 +12,9 @@ use Rattle.mechanism.specs.declared.features.Piece.{Piece}
 use Rattle.material.specs.Material.{Material}
 use Rattle.sides.specs.declared.PlacedDisc.{PlacedDisc}
 use Rattle.sides.specs.declared.PlacedFace.{PlacedFace}
-use Rattle.sides.specs.declared.SideFeatures.{SideFeatures}
 use Rattle.proximities.specs.declared.Candidate.{Candidate}
 use Rattle.proximities.specs.Proximities.{reading, kept_if, exchanged, is_deep, real_of, center_real, found_deep, read_ab, read_ba, read_discs, read_center, each}
+use Rattle.candidates.specs.declared.PlacedSides.{PlacedSides}
 use Rattle.candidates.specs.Candidates.{disc_deep, any_deep, center_deep, placed_candidates}
 use Rattle.sides.specs.Features.{faces_in, discs_in}
 use Rattle.std.proofs.Common.{Option, Some, None}
@@ -76,7 +76,9 @@ module _ (m m' : Material) where
   flat-center_same piece c faces = flat-same (λ f. found_deep (center_on_face c f.face)) (read_center m piece c) (read_center m' piece c) (center_same piece c) faces
 
 -- the candidates of two sides in the world, where nothing is deep either way
-pub placed_same : (ma ma' mb mb' : Material) (a b : SideFeatures) → any_deep (discs_in a) (faces_in b) ≡ false → any_deep (discs_in b) (faces_in a) ≡ false
-    → placed_candidates ma mb a b ≡ placed_candidates ma' mb' a b
-placed_same ma ma' mb mb' a b p q =
+pub placed_same : (ma ma' mb mb' : Material) (s : PlacedSides) → any_deep (discs_in s.a.now) (faces_in s.b.now) ≡ false → any_deep (discs_in s.b.now) (faces_in s.a.now) ≡ false
+    → placed_candidates ma mb s ≡ placed_candidates ma' mb' s
+placed_same ma ma' mb mb' s p q =
+    let a = s.a.now in
+    let b = s.b.now in
     ap₂ (λ (x y : List Candidate). x ++ (y ++ each read_discs (discs_in a) (discs_in b))) (each-ab_same mb mb' (discs_in a) (faces_in b) p) (each-ba_same ma ma' (discs_in b) (faces_in a) q)

@@ -1,12 +1,15 @@
 -- The candidates of a pair at a pose (contact/rows.rs: `read_pair`), in the Rust's order, before hiding and margin.
 -- Definitions only.
-use Rattle.std.specs.Prelude.{ℕ, ◌+◌, ◌*◌, ◌≤◌, Bool, true, false, ◌&&◌, List, [], ◌++◌, map, leb, length}
+use Rattle.std.specs.Prelude.{ℕ, ◌+◌, ◌*◌, ◌≤◌, Bool, true, false, ◌&&◌, List, [], ◌++◌, map, leb, length, replicate}
 use Rattle.std.specs.List.{list_any}
 use Rattle.laws.specs.Lists.{flat}
+use Rattle.ieee.specs.Consts.{zero_f}
 use Rattle.geometry.specs.Signed.{disc_on_face, center_on_face}
+use Rattle.geometry.specs.declared.Dir.{Dir}
 use Rattle.geometry.specs.declared.Point.{Point}
 use Rattle.geometry.specs.declared.signed.Disc.{Disc}
 use Rattle.mechanism.specs.Check.{pair_drawn}
+use Rattle.mechanism.specs.declared.features.Piece.TheVariants.{Segment}
 use Rattle.bodies.specs.Pose.{world_of, placement_at}
 use Rattle.mechanism.specs.declared.Outlines.{Outlines}
 use Rattle.mechanism.specs.declared.Parts.{Parts}
@@ -25,6 +28,7 @@ use Rattle.sides.specs.declared.SideFeatures.{SideFeatures}
 use Rattle.sides.specs.declared.contacts.PairFeatures.{PairFeatures}
 use Rattle.proximities.specs.Proximities.{world_face, world_disc, reading, read_ab, read_ba, read_discs, read_center, each, found_deep}
 use Rattle.proximities.specs.declared.Candidate.{Candidate}
+use Rattle.candidates.specs.declared.PlacedSides.{PlacedSides}
 use Rattle.candidates.specs.declared.Reading.{Reading}
 
 -- ---- features in the world
@@ -75,24 +79,38 @@ abbrev pub no_material : Material
 no_material = record { solids = []; cuts = [] }
 
 -- the same of sides that the code has placed
-abbrev pub placed_candidates : Material → Material → SideFeatures → SideFeatures → List Candidate
-placed_candidates ma mb a b = candidates_in ma mb (faces_in a) (discs_in a) (faces_in b) (discs_in b)
+abbrev pub placed_candidates : Material → Material → PlacedSides → List Candidate
+placed_candidates ma mb s = candidates_in ma mb (faces_in s.a.now) (discs_in s.a.now) (faces_in s.b.now) (discs_in s.b.now)
 
 -- so many places are enough for the candidates of two sides
 abbrev pub places_of : SideFeatures → SideFeatures → ℕ
 places_of a b = length (discs_in a) * length (faces_in b) + (length (discs_in b) * length (faces_in a) + length (discs_in a) * length (discs_in b))
 
 -- the counts of two sides are within their arrays, and n places have room for their candidates
-pub record FewPlaced (a b : SideFeatures) (n : ℕ) : Type 0 where
-  pub faces_a : a.faces ≤ 12
-  pub discs_a : a.discs ≤ 28
-  pub faces_b : b.faces ≤ 12
-  pub discs_b : b.discs ≤ 28
-  pub few : a.discs * b.faces + (b.discs * a.faces + a.discs * b.discs) ≤ n
+pub record FewPlaced (s : PlacedSides) (n : ℕ) : Type 0 where
+  pub faces_a : s.a.now.faces ≤ 12
+  pub discs_a : s.a.now.discs ≤ 28
+  pub faces_b : s.b.now.faces ≤ 12
+  pub discs_b : s.b.now.discs ≤ 28
+  pub few : s.a.now.discs * s.b.now.faces + (s.b.now.discs * s.a.now.faces + s.a.now.discs * s.b.now.discs) ≤ n
 
 -- the candidate of what the code has read
 abbrev pub candidates_of : Reading → List Candidate
 candidates_of r = reading r.a r.b r.who r.near
+
+-- what a side is before it is placed
+abbrev pub blank_side : SideFeatures
+blank_side =
+    let o : Point = record { x = zero_f; y = zero_f } in
+    let d : Dir = record { x = zero_f; y = zero_f } in
+    record {
+      body = 0;
+      faces = 0;
+      face = replicate 12 (record { piece = Segment 0 0; face = record { a = o; b = o; normal = d } });
+      discs = 0;
+      disc = replicate 28 (record { piece = Segment 0 0; disc = record { center = o; radius = zero_f; from = d; to = d } });
+      center = record { piece = Segment 0 0; point = o };
+    }
 
 -- room for any pair's candidates
 abbrev pub candidate_room : Parts → ContactPair → ℕ → Bool

@@ -2,7 +2,7 @@
 #![tactic(auto)]
 
 ghost use Rattle.std.specs.Prelude.{◌≡◌, ℕ, true, cond, List, [], ◌+◌, ◌*◌, ◌<◌, ◌≤◌, length};
-ghost use Rattle.laws.specs.Fill.{filled};
+ghost use Rattle.std.proofs.lemmas.List.Edits.{sets};
 ghost use Rattle.laws.specs.Lists.{list_in, flat};
 ghost use Rattle.bodies.specs.declared.pose.Pose.{Pose};
 ghost use Rattle.mechanism.specs.Check.{FewParts, pair_drawn};
@@ -13,7 +13,7 @@ ghost use Rattle.drawing.specs.declared.Chosen.{Chosen};
 ghost use Rattle.proximities.specs.Proximities.{read_ab, read_ba, read_discs, read_center, each, Written};
 ghost use Rattle.proximities.specs.declared.Candidate.{Candidate};
 ghost use Rattle.candidates.specs.Candidates.{place_face, place_disc, faces_at, discs_at, disc_deep, any_deep, center_deep, no_material};
-ghost use Rattle.candidates.specs.Candidates.{placed_candidates, features_candidates, center_candidates, candidates_of, places_of, FewPlaced, pair_candidates, candidate_room};
+ghost use Rattle.candidates.specs.Candidates.{placed_candidates, features_candidates, center_candidates, candidates_of, places_of, blank_side, FewPlaced, pair_candidates, candidate_room};
 ghost use Rattle.candidates.specs.declared.Reading.{Reading};
 ghost use Rattle.sides.specs.Features.{faces_in, discs_in};
 
@@ -21,8 +21,8 @@ pub mod prepared;
 
 use bodies::pose::{Placement, Pose, placement_at};
 use drawing::{Chosen, Polygons, draw, side_chosen};
-use geometry::Point;
-use geometry::signed::{Disc, Proximity, center_on_face, disc_on_disc, disc_on_face};
+use geometry::signed::{Disc, Face, Proximity, center_on_face, disc_on_disc, disc_on_face};
+use geometry::{Dir, Point};
 use material::{DrawnMaterial, Spot};
 use mechanism::check::pair_drawn;
 use mechanism::features::Piece;
@@ -33,7 +33,7 @@ use proximities::{
 };
 use sides::contacts::pair_features_at;
 use sides::held::Side;
-use sides::{PlacedDisc, PlacedFace, PlacedPoint, SideFeatures, no_disc, no_face};
+use sides::{PlacedDisc, PlacedFace, PlacedPoint, SideFeatures};
 
 // ---- a side in the world
 
@@ -55,36 +55,65 @@ fn place_disc(place: Placement, d: PlacedDisc) -> PlacedDisc
     }
 }
 
-// An array with the elements of the numbers below n in front, and blanks behind them.
-fn first_of<T: Copy, const N: usize, F: Fn(usize) -> T>(blank: T, n: usize, element: F) -> [T; N]
+// Writes the elements of the numbers below n to the front.
+fn put_front<T: Copy, F: Fn(usize) -> T>(out: &mut [T], n: usize, element: F)
     requires calls { (i : ℕ) → F.pre element i }
-    requires room { n ≤ N }
-    ensures { (f : ℕ → T) → ((i : ℕ) (x : T) → i < n → F.post element i x → x ≡ f i) → result ≡ filled N blank (list_in f n 0) }
+    requires room { n ≤ length out.old }
+    ensures { (f : ℕ → T) → ((i : ℕ) (x : T) → i < n → F.post element i x → x ≡ f i) → out.new ≡ sets out.old 0 (list_in f n 0) }
 {
-    let mut all = [blank; N];
     for i in 0..n {
-        all[i] = element(i);
+        out[i] = element(i);
     }
-    all
 }
 
-// A side's faces and discs in the world.
-fn place_side<S: Side>(s: &S, q: Pose) -> SideFeatures
-    ensures few { (result.faces ≤ 12) × (result.discs ≤ 28) }
-    ensures counts { (result.faces ≡ length (faces_in (S.features s.now))) × (result.discs ≡ length (discs_in (S.features s.now))) }
-    ensures placed { (faces_in result ≡ faces_at (S.features s.now) q) × (discs_in result ≡ discs_at (S.features s.now) q) }
+// Writes a side's faces and discs in the world. They go where they are read, since a side is large to move.
+fn place_side<S: Side>(out: &mut SideFeatures, s: &S, q: Pose)
+    ensures few { (out.new.faces ≤ 12) × (out.new.discs ≤ 28) }
+    ensures counts { (out.new.faces ≡ length (faces_in (S.features s.now))) × (out.new.discs ≡ length (discs_in (S.features s.now))) }
+    ensures placed { (faces_in out.new ≡ faces_at (S.features s.now) q) × (discs_in out.new ≡ discs_at (S.features s.now) q) }
 {
     let place = placement_at(q, s.body());
     let faces = s.faces();
     let discs = s.discs();
+    put_front(&mut out.face, faces, |i| place_face(place, s.face(i)));
+    put_front(&mut out.disc, discs, |i| place_disc(place, s.disc(i)));
+    out.faces = faces;
+    out.discs = discs;
+}
+
+// What a side is before it is placed: zeros throughout, which are cheap to write.
+fn blank_side() -> SideFeatures
+    ensures { result ≡ blank_side }
+{
+    let piece = Piece::Segment { part: 0, seg: 0 };
+    let o = Point { x: 0.0, y: 0.0 };
+    let d = Dir { x: 0.0, y: 0.0 };
+    let face = Face {
+        a: o,
+        b: o,
+        normal: d,
+    };
+    let disc = Disc {
+        center: o,
+        radius: 0.0,
+        from: d,
+        to: d,
+    };
     SideFeatures {
-        body: s.body(),
-        faces,
-        face: first_of(no_face(), faces, |i| place_face(place, s.face(i))),
-        discs,
-        disc: first_of(no_disc(), discs, |i| place_disc(place, s.disc(i))),
-        center: s.center(),
+        body: 0,
+        faces: 0,
+        face: [PlacedFace { piece, face }; 12],
+        discs: 0,
+        disc: [PlacedDisc { piece, disc }; 28],
+        center: PlacedPoint { piece, point: o },
     }
+}
+
+// Two sides in the world.
+#[derive(Clone, Copy)]
+struct PlacedSides<'a> {
+    a: &'a SideFeatures,
+    b: &'a SideFeatures,
 }
 
 // ---- readings into a lent array
@@ -139,19 +168,13 @@ fn put_all<A: Copy, B: Copy, F: Fn(A, B) -> Reading>(
 }
 
 // All discs of side A on the faces of side B.
-fn discs_on_b(
-    out: &mut [Candidate],
-    at: usize,
-    a: &SideFeatures,
-    b: &SideFeatures,
-    m: &DrawnMaterial,
-) -> usize
-    requires { (a.now.discs ≤ 28) × (b.now.faces ≤ 12) × (at + a.now.discs * b.now.faces ≤ length out.old) }
-    ensures few { result ≤ at + a.now.discs * b.now.faces }
-    ensures written { Written (each (read_ab (drawn_material m.now)) (discs_in a.now) (faces_in b.now)) at result out.old out.new }
+fn discs_on_b(out: &mut [Candidate], at: usize, s: &PlacedSides, m: &DrawnMaterial) -> usize
+    requires { (s.now.a.now.discs ≤ 28) × (s.now.b.now.faces ≤ 12) × (at + s.now.a.now.discs * s.now.b.now.faces ≤ length out.old) }
+    ensures few { result ≤ at + s.now.a.now.discs * s.now.b.now.faces }
+    ensures written { Written (each (read_ab (drawn_material m.now)) (discs_in s.now.a.now) (faces_in s.now.b.now)) at result out.old out.new }
 {
-    let discs = &a.disc[..a.discs];
-    let faces = &b.face[..b.faces];
+    let discs = &s.a.disc[..s.a.discs];
+    let faces = &s.b.face[..s.b.faces];
     let read = |d: PlacedDisc, f: PlacedFace| Reading {
         a: d.piece,
         b: f.piece,
@@ -162,19 +185,13 @@ fn discs_on_b(
 }
 
 // All discs of side B on the faces of side A.
-fn discs_on_a(
-    out: &mut [Candidate],
-    at: usize,
-    a: &SideFeatures,
-    b: &SideFeatures,
-    m: &DrawnMaterial,
-) -> usize
-    requires { (b.now.discs ≤ 28) × (a.now.faces ≤ 12) × (at + b.now.discs * a.now.faces ≤ length out.old) }
-    ensures few { result ≤ at + b.now.discs * a.now.faces }
-    ensures written { Written (each (read_ba (drawn_material m.now)) (discs_in b.now) (faces_in a.now)) at result out.old out.new }
+fn discs_on_a(out: &mut [Candidate], at: usize, s: &PlacedSides, m: &DrawnMaterial) -> usize
+    requires { (s.now.b.now.discs ≤ 28) × (s.now.a.now.faces ≤ 12) × (at + s.now.b.now.discs * s.now.a.now.faces ≤ length out.old) }
+    ensures few { result ≤ at + s.now.b.now.discs * s.now.a.now.faces }
+    ensures written { Written (each (read_ba (drawn_material m.now)) (discs_in s.now.b.now) (faces_in s.now.a.now)) at result out.old out.new }
 {
-    let discs = &b.disc[..b.discs];
-    let faces = &a.face[..a.faces];
+    let discs = &s.b.disc[..s.b.discs];
+    let faces = &s.a.face[..s.a.faces];
     let read = |d: PlacedDisc, f: PlacedFace| Reading {
         a: f.piece,
         b: d.piece,
@@ -185,12 +202,12 @@ fn discs_on_a(
 }
 
 // All discs of side A on the discs of side B.
-fn discs_on_discs(out: &mut [Candidate], at: usize, a: &SideFeatures, b: &SideFeatures) -> usize
-    requires { (a.now.discs ≤ 28) × (b.now.discs ≤ 28) × (at + a.now.discs * b.now.discs ≤ length out.old) }
-    ensures { Written (each read_discs (discs_in a.now) (discs_in b.now)) at result out.old out.new }
+fn discs_on_discs(out: &mut [Candidate], at: usize, s: &PlacedSides) -> usize
+    requires { (s.now.a.now.discs ≤ 28) × (s.now.b.now.discs ≤ 28) × (at + s.now.a.now.discs * s.now.b.now.discs ≤ length out.old) }
+    ensures { Written (each read_discs (discs_in s.now.a.now) (discs_in s.now.b.now)) at result out.old out.new }
 {
-    let mine = &a.disc[..a.discs];
-    let others = &b.disc[..b.discs];
+    let mine = &s.a.disc[..s.a.discs];
+    let others = &s.b.disc[..s.b.discs];
     let read = |d: PlacedDisc, e: PlacedDisc| Reading {
         a: d.piece,
         b: e.piece,
@@ -244,35 +261,47 @@ fn center_deep(c: Point, faces: &[PlacedFace]) -> bool
 
 // ---- the material that is drawn
 
-// What a material is drawn from: a description as it is, or prepared.
+// What the materials of a pair's sides are drawn from: a description as it is, or prepared.
 trait Drawing {
-    // The material of chosen parts.
-    ghost material: { Self → Pose → Chosen → Material };
+    // The materials of the chosen parts of either side.
+    ghost material_a: { Self → Material };
 
-    // How many points have room for any of its materials.
+    ghost material_b: { Self → Material };
+
+    // How many points have room for either of them.
     ghost most: { Self → ℕ };
 
     // Where that is more than those of any description, there is no material.
     fn room(&self) -> usize
-        ensures { (result ≡ most self.now) × ((q : Pose) (c : Chosen) → 6144 < result → material self.now q c ≡ no_material) };
+        ensures { (result ≡ most self.now) × (6144 < result → (material_a self.now ≡ no_material) × (material_b self.now ≡ no_material)) };
 
-    // Draws the material of chosen parts at a pose.
-    fn draw(&self, points: &mut [Spot], starts: &mut [usize], q: Pose, c: Chosen) -> Polygons
+    // Draws the material of side A.
+    fn draw_a(&self, points: &mut [Spot], starts: &mut [usize]) -> Polygons
         requires { (most self.now ≤ 6144) × (most self.now ≤ length points.old) × (33 ≤ length starts.old) }
-        ensures { (m : DrawnMaterial) → Held result points.new starts.new m → drawn_material m ≡ material self.now q c };
+        ensures { (m : DrawnMaterial) → Held result points.new starts.new m → drawn_material m ≡ material_a self.now };
+
+    // Draws the material of side B.
+    fn draw_b(&self, points: &mut [Spot], starts: &mut [usize]) -> Polygons
+        requires { (most self.now ≤ 6144) × (most self.now ≤ length points.old) × (33 ≤ length starts.old) }
+        ensures { (m : DrawnMaterial) → Held result points.new starts.new m → drawn_material m ≡ material_b self.now };
 }
 
-// A description as it is: its parts and their outlines.
+// A description as it is, its parts and their outlines, at a pose, with the chosen parts of each side.
 #[derive(Clone, Copy)]
 struct Described<'a> {
     parts: &'a Parts,
     outlines: &'a Outlines,
+    q: Pose,
+    a: Chosen,
+    b: Chosen,
 
     ghost few: { FewParts parts.now },
 }
 
 impl Drawing for Described<'_> {
-    ghost material = { λ d q c. chosen_material d.parts.now d.outlines.now q c };
+    ghost material_a = { λ d. chosen_material d.parts.now d.outlines.now d.q d.a };
+
+    ghost material_b = { λ d. chosen_material d.parts.now d.outlines.now d.q d.b };
 
     ghost most = { λ d. 6144 };
 
@@ -280,8 +309,12 @@ impl Drawing for Described<'_> {
         6144
     }
 
-    fn draw(&self, points: &mut [Spot], starts: &mut [usize], q: Pose, c: Chosen) -> Polygons {
-        draw(points, starts, *self.parts, *self.outlines, q, c)
+    fn draw_a(&self, points: &mut [Spot], starts: &mut [usize]) -> Polygons {
+        draw(points, starts, *self.parts, *self.outlines, self.q, self.a)
+    }
+
+    fn draw_b(&self, points: &mut [Spot], starts: &mut [usize]) -> Polygons {
+        draw(points, starts, *self.parts, *self.outlines, self.q, self.b)
     }
 }
 
@@ -304,77 +337,57 @@ fn nothing<'a>() -> DrawnMaterial<'a>
 fn deep_features_with<const N: usize, D: Drawing>(
     out: &mut [Candidate],
     from: &D,
-    q: Pose,
-    ca: Chosen,
-    cb: Chosen,
-    a: &SideFeatures,
-    b: &SideFeatures,
+    s: &PlacedSides,
 ) -> usize
-    requires { (D.most from.now ≤ N) × (N ≤ 6144) × FewPlaced a.now b.now (length out.old) }
-    ensures { Written (placed_candidates (D.material from.now q ca) (D.material from.now q cb) a.now b.now) 0 result out.old out.new }
+    requires { (D.most from.now ≤ N) × (N ≤ 6144) × FewPlaced s.now (length out.old) }
+    ensures { Written (placed_candidates (D.material_a from.now) (D.material_b from.now) s.now) 0 result out.old out.new }
 {
     let mut points = [[0.0; 2]; N];
     let mut starts = [0; 33];
-    let n = from.draw(&mut points, &mut starts, q, cb);
-    let i = discs_on_b(out, 0, a, b, &n.held(&points, &starts));
-    let n = from.draw(&mut points, &mut starts, q, ca);
-    let j = discs_on_a(out, i, a, b, &n.held(&points, &starts));
-    discs_on_discs(out, j, a, b)
+    let n = from.draw_b(&mut points, &mut starts);
+    let i = discs_on_b(out, 0, s, &n.held(&points, &starts));
+    let n = from.draw_a(&mut points, &mut starts);
+    let j = discs_on_a(out, i, s, &n.held(&points, &starts));
+    discs_on_discs(out, j, s)
 }
 
 // Without material.
-fn plain_features(out: &mut [Candidate], a: &SideFeatures, b: &SideFeatures) -> usize
-    requires { FewPlaced a.now b.now (length out.old) }
-    ensures { Written (placed_candidates no_material no_material a.now b.now) 0 result out.old out.new }
+fn plain_features(out: &mut [Candidate], s: &PlacedSides) -> usize
+    requires { FewPlaced s.now (length out.old) }
+    ensures { Written (placed_candidates no_material no_material s.now) 0 result out.old out.new }
 {
     let m = nothing();
-    let i = discs_on_b(out, 0, a, b, &m);
-    let j = discs_on_a(out, i, a, b, &m);
-    discs_on_discs(out, j, a, b)
+    let i = discs_on_b(out, 0, s, &m);
+    let j = discs_on_a(out, i, s, &m);
+    discs_on_discs(out, j, s)
 }
 
 // With both materials, or without them where no room is enough.
-fn deep_features<D: Drawing>(
-    out: &mut [Candidate],
-    from: &D,
-    q: Pose,
-    ca: Chosen,
-    cb: Chosen,
-    a: &SideFeatures,
-    b: &SideFeatures,
-) -> usize
-    requires { FewPlaced a.now b.now (length out.old) }
-    ensures { Written (placed_candidates (D.material from.now q ca) (D.material from.now q cb) a.now b.now) 0 result out.old out.new }
+fn deep_features<D: Drawing>(out: &mut [Candidate], from: &D, s: &PlacedSides) -> usize
+    requires { FewPlaced s.now (length out.old) }
+    ensures { Written (placed_candidates (D.material_a from.now) (D.material_b from.now) s.now) 0 result out.old out.new }
 {
     let n = from.room();
     if n <= 512 {
-        return deep_features_with::<512, D>(out, from, q, ca, cb, a, b);
+        return deep_features_with::<512, D>(out, from, s);
     }
     if n <= 6144 {
-        return deep_features_with::<6144, D>(out, from, q, ca, cb, a, b);
+        return deep_features_with::<6144, D>(out, from, s);
     }
-    plain_features(out, a, b)
+    plain_features(out, s)
 }
 
 // The material is asked for where something reads deep.
-fn features_candidates<D: Drawing>(
-    out: &mut [Candidate],
-    from: &D,
-    q: Pose,
-    ca: Chosen,
-    cb: Chosen,
-    a: &SideFeatures,
-    b: &SideFeatures,
-) -> usize
-    requires { FewPlaced a.now b.now (length out.old) }
-    ensures { Written (placed_candidates (D.material from.now q ca) (D.material from.now q cb) a.now b.now) 0 result out.old out.new }
+fn features_candidates<D: Drawing>(out: &mut [Candidate], from: &D, s: &PlacedSides) -> usize
+    requires { FewPlaced s.now (length out.old) }
+    ensures { Written (placed_candidates (D.material_a from.now) (D.material_b from.now) s.now) 0 result out.old out.new }
 {
-    if any_deep(&a.disc[..a.discs], &b.face[..b.faces])
-        || any_deep(&b.disc[..b.discs], &a.face[..a.faces])
+    if any_deep(&s.a.disc[..s.a.discs], &s.b.face[..s.b.faces])
+        || any_deep(&s.b.disc[..s.b.discs], &s.a.face[..s.a.faces])
     {
-        return deep_features(out, from, q, ca, cb, a, b);
+        return deep_features(out, from, s);
     }
-    plain_features(out, a, b)
+    plain_features(out, s)
 }
 
 // ---- the candidates of a centre in the world on a side's faces
@@ -383,17 +396,15 @@ fn features_candidates<D: Drawing>(
 fn deep_center_with<const N: usize, D: Drawing>(
     out: &mut [Candidate],
     from: &D,
-    q: Pose,
-    ca: Chosen,
     c: PlacedPoint,
     a: &SideFeatures,
 ) -> usize
     requires { (D.most from.now ≤ N) × (N ≤ 6144) × (a.now.faces ≤ 12) × (a.now.faces ≤ length out.old) }
-    ensures { Written (flat (read_center (D.material from.now q ca) c.piece c.point) (faces_in a.now)) 0 result out.old out.new }
+    ensures { Written (flat (read_center (D.material_a from.now) c.piece c.point) (faces_in a.now)) 0 result out.old out.new }
 {
     let mut points = [[0.0; 2]; N];
     let mut starts = [0; 33];
-    let n = from.draw(&mut points, &mut starts, q, ca);
+    let n = from.draw_a(&mut points, &mut starts);
     center_on_faces(out, c, a, &n.held(&points, &starts))
 }
 
@@ -409,20 +420,18 @@ fn plain_center(out: &mut [Candidate], c: PlacedPoint, a: &SideFeatures) -> usiz
 fn deep_center<D: Drawing>(
     out: &mut [Candidate],
     from: &D,
-    q: Pose,
-    ca: Chosen,
     c: PlacedPoint,
     a: &SideFeatures,
 ) -> usize
     requires { (a.now.faces ≤ 12) × (a.now.faces ≤ length out.old) }
-    ensures { Written (flat (read_center (D.material from.now q ca) c.piece c.point) (faces_in a.now)) 0 result out.old out.new }
+    ensures { Written (flat (read_center (D.material_a from.now) c.piece c.point) (faces_in a.now)) 0 result out.old out.new }
 {
     let n = from.room();
     if n <= 512 {
-        return deep_center_with::<512, D>(out, from, q, ca, c, a);
+        return deep_center_with::<512, D>(out, from, c, a);
     }
     if n <= 6144 {
-        return deep_center_with::<6144, D>(out, from, q, ca, c, a);
+        return deep_center_with::<6144, D>(out, from, c, a);
     }
     plain_center(out, c, a)
 }
@@ -431,56 +440,43 @@ fn deep_center<D: Drawing>(
 fn center_candidates<D: Drawing>(
     out: &mut [Candidate],
     from: &D,
-    q: Pose,
-    ca: Chosen,
     c: PlacedPoint,
     a: &SideFeatures,
 ) -> usize
     requires { (a.now.faces ≤ 12) × (a.now.faces ≤ length out.old) }
-    ensures { Written (flat (read_center (D.material from.now q ca) c.piece c.point) (faces_in a.now)) 0 result out.old out.new }
+    ensures { Written (flat (read_center (D.material_a from.now) c.piece c.point) (faces_in a.now)) 0 result out.old out.new }
 {
     if center_deep(c.point, &a.face[..a.faces]) {
-        return deep_center(out, from, q, ca, c, a);
+        return deep_center(out, from, c, a);
     }
     plain_center(out, c, a)
 }
 
 // ---- the candidates of a pair, with the parts of each side's material
 
-fn of_features<S: Side, D: Drawing>(
-    out: &mut [Candidate],
-    from: &D,
-    q: Pose,
-    ca: Chosen,
-    cb: Chosen,
-    a: &S,
-    b: &S,
-) -> usize
+fn of_features<S: Side, D: Drawing>(out: &mut [Candidate], from: &D, q: Pose, a: &S, b: &S) -> usize
     requires { places_of (S.features a.now) (S.features b.now) ≤ length out.old }
-    ensures { Written (features_candidates (D.material from.now q ca) (D.material from.now q cb) (record { a = S.features a.now; b = S.features b.now }) q) 0 result out.old out.new }
+    ensures { Written (features_candidates (D.material_a from.now) (D.material_b from.now) (record { a = S.features a.now; b = S.features b.now }) q) 0 result out.old out.new }
 {
-    let a = place_side(a, q);
-    let b = place_side(b, q);
-    features_candidates(out, from, q, ca, cb, &a, &b)
+    let mut sa = blank_side();
+    let mut sb = blank_side();
+    place_side(&mut sa, a, q);
+    place_side(&mut sb, b, q);
+    features_candidates(out, from, &PlacedSides { a: &sa, b: &sb })
 }
 
-fn of_center<S: Side, D: Drawing>(
-    out: &mut [Candidate],
-    from: &D,
-    q: Pose,
-    ca: Chosen,
-    a: &S,
-    b: &S,
-) -> usize
+fn of_center<S: Side, D: Drawing>(out: &mut [Candidate], from: &D, q: Pose, a: &S, b: &S) -> usize
     requires { length (faces_in (S.features a.now)) ≤ length out.old }
-    ensures { Written (center_candidates (D.material from.now q ca) (record { a = S.features a.now; b = S.features b.now }) q) 0 result out.old out.new }
+    ensures { Written (center_candidates (D.material_a from.now) (record { a = S.features a.now; b = S.features b.now }) q) 0 result out.old out.new }
 {
     let center = b.center();
     let c = PlacedPoint {
         piece: center.piece,
         point: placement_at(q, b.body()).world(center.point),
     };
-    center_candidates(out, from, q, ca, c, &place_side(a, q))
+    let mut placed = blank_side();
+    place_side(&mut placed, a, q);
+    center_candidates(out, from, c, &placed)
 }
 
 fn drawn_candidates(out: &mut [Candidate], ps: Parts, o: Outlines, q: Pose, p: ContactPair) -> usize
@@ -488,21 +484,18 @@ fn drawn_candidates(out: &mut [Candidate], ps: Parts, o: Outlines, q: Pose, p: C
     ensures { Written (pair_candidates ps o q p) 0 result out.old out.new }
 {
     let f = pair_features_at(ps, o, p);
+    let features = matches!(p.geometry, PairGeometry::Features);
     let from = Described {
         parts: &ps,
         outlines: &o,
+        q,
+        a: side_chosen(ps, p.a, features),
+        b: side_chosen(ps, p.b, features),
     };
-    match p.geometry {
-        PairGeometry::Features => {
-            let ca = side_chosen(ps, p.a, true);
-            let cb = side_chosen(ps, p.b, true);
-            of_features(out, &from, q, ca, cb, &f.a, &f.b)
-        }
-        PairGeometry::CenterBearing => {
-            let ca = side_chosen(ps, p.a, false);
-            of_center(out, &from, q, ca, &f.a, &f.b)
-        }
+    if features {
+        return of_features(out, &from, q, &f.a, &f.b);
     }
+    of_center(out, &from, q, &f.a, &f.b)
 }
 
 fn candidate_room(ps: Parts, p: ContactPair, n: usize) -> bool

@@ -14,17 +14,32 @@ use proximities::Candidate;
 use strips::tables::Tables;
 use strips::{row_a, row_b, row_of_material};
 
-impl Drawing for Tables<'_> {
-    ghost material = { λ t q c. material_or (table_rows t) q c };
+// Tables at a pose, with the chosen parts of each side.
+#[derive(Clone, Copy)]
+struct Prepared<'a> {
+    tables: &'a Tables<'a>,
+    q: Pose,
+    a: Chosen,
+    b: Chosen,
+}
 
-    ghost most = { λ t. all_drawn (table_rows t) };
+impl Drawing for Prepared<'_> {
+    ghost material_a = { λ p. material_or (table_rows p.tables.now) p.q p.a };
+
+    ghost material_b = { λ p. material_or (table_rows p.tables.now) p.q p.b };
+
+    ghost most = { λ p. all_drawn (table_rows p.tables.now) };
 
     fn room(&self) -> usize {
-        all_drawn(self)
+        all_drawn(self.tables)
     }
 
-    fn draw(&self, points: &mut [Spot], starts: &mut [usize], q: Pose, c: Chosen) -> Polygons {
-        draw_in(points, starts, self, q, c)
+    fn draw_a(&self, points: &mut [Spot], starts: &mut [usize]) -> Polygons {
+        draw_in(points, starts, self.tables, self.q, self.a)
+    }
+
+    fn draw_b(&self, points: &mut [Spot], starts: &mut [usize]) -> Polygons {
+        draw_in(points, starts, self.tables, self.q, self.b)
     }
 }
 
@@ -49,12 +64,16 @@ fn candidates_of(out: &mut [Candidate], t: &Tables, q: Pose, pair: usize) -> usi
     let j = row_b(pair);
     let a = t.side(i);
     let b = t.side(j);
-    let ca = choice_at(t, row_of_material(i));
+    let from = Prepared {
+        tables: t,
+        q,
+        a: choice_at(t, row_of_material(i)),
+        b: choice_at(t, row_of_material(j)),
+    };
     if t.facts(i).geometry == 0 {
-        let cb = choice_at(t, row_of_material(j));
-        return of_features(out, t, q, ca, cb, &a, &b);
+        return of_features(out, &from, q, &a, &b);
     }
-    of_center(out, t, q, ca, &a, &b)
+    of_center(out, &from, q, &a, &b)
 }
 
 // Writes the candidates of a pair at a pose, in order; nothing where the array is too short.

@@ -8,3 +8,5 @@ pub mod Laid
 pub mod Lays
 pub mod Same
 pub mod Held
+pub mod Puts
+pub mod ReadBack

@@ -60,14 +60,11 @@ samples_short mouths s = go (is_mouth mouths (ends_of s))
     go false = points_short s
 
 -- ---- a segment's samples, as the code asks for them
-module _ (g : Point → Point) (at : ℕ) (out₀ : List (List Float)) {s : Seg} {r : ℕ} {out : List (List Float)} where
-  pub of-line : {a b : Point} → s ≡ Line a b → (r ≡ at + 17) × (out ≡ sets out₀ at (map row_of (map g (list_in (on_line a b) 17 0))))
-      → (r ≡ at + length (sample_points s)) × (out ≡ sets out₀ at (map row_of (map g (sample_points s))))
-  of-line {a} {b} e w = (
-    w.0 ∙ ap (λ (n : ℕ). at + n) (sym (line-long (on_line a b))) ∙ ap (λ (x : Seg). at + length (sample_points x)) (sym e),
-    w.1
-        ∙ ap (λ (x : Seg). sets out₀ at (map row_of (map g (sample_points x)))) (sym e),
-  )
+pub line-points : {s : Seg} {a b : Point} → s ≡ Line a b → list_in (on_line a b) 17 0 ≡ sample_points s
+line-points e = ap sample_points (sym e)
+
+pub line-count : (at : ℕ) {s : Seg} {a b : Point} {r : ℕ} → s ≡ Line a b → r ≡ at + 17 → r ≡ at + length (sample_points s)
+line-count at {a = a} {b} e n = n ∙ ap (λ (k : ℕ). at + k) (sym (line-long (on_line a b)) ∙ ap length (line-points e))
 
 -- a mouth has none, any other segment has its points
 module _ (mouths : List Edge) (s : Seg) {a b : Point} {t : Bool} (e : a ≡ start_of s) (f : b ≡ end_of s) (is : t ≡ is_mouth mouths (record { a = a; b = b })) where

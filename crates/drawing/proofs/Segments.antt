@@ -14,7 +14,7 @@ use Rattle.laws.proofs.Choice.{cond_yes}
 use Rattle.laws.proofs.Fill.{map-drop}
 use Rattle.laws.proofs.Lists.{flat-drop, flat-none, flat-short}
 use Rattle.laws.proofs.Sums.{sum-part}
-use Rattle.laws.proofs.Writing.{starts, puts, appends-map, ends, ends-count}
+use Rattle.laws.proofs.Writing.{starts, puts, appends-map, ends}
 use Rattle.geometry.specs.Geometry.{finer, popped, drawn_of, start_of, end_of}
 use Rattle.geometry.specs.declared.Drawn.{Drawn}
 use Rattle.geometry.specs.declared.Point.{Point}
@@ -49,17 +49,14 @@ unfolding finer popped
 drawn-long (Line a b) = refl
 drawn-long (Arc c r from to) = refl
 
-pub drawn-held : {d : Drawn} (s : Seg) → d ≡ drawn_of s → (d.count ≤ 8) × (length d.points ≡ 8)
-drawn-held s e = subst (λ (d : Drawn). (d.count ≤ 8) × (length d.points ≡ 8)) (sym e) (drawn-count s, drawn-long s)
-
 pub drawn-length : (s : Seg) → length (drawn_points s) ≡ (drawn_of s).count
 drawn-length s =
     let h = drawn-count s in
     let l = drawn-long s in
     length-take-le (drawn_of s).count (drawn_of s).points (omega arith)
 
-pub drawn-counted : {d : Drawn} (s : Seg) → d ≡ drawn_of s → d.count ≡ length (drawn_points s)
-drawn-counted s e = ap (λ (y : Drawn). y.count) e ∙ sym (drawn-length s)
+pub drawn_known : (d : Drawn) (s : Seg) → d ≡ drawn_of s → (d.count ≡ length (drawn_points s)) × (d.count ≤ 8) × (length d.points ≡ 8)
+drawn_known d s e = subst (λ (d : Drawn). (d.count ≡ length (drawn_points s)) × (d.count ≤ 8) × (length d.points ≡ 8)) (sym e) (sym (drawn-length s), drawn-count s, drawn-long s)
 
 pub drawn-short : (s : Seg) → length (drawn_points s) ≤ 8
 drawn-short s = let h = drawn-count s in let l = drawn-length s in omega arith
@@ -92,44 +89,53 @@ module _ (l : List Seg) (i : ℕ) where
   flat-end : (g : Point → Point) (f : Seg → List Point) → length l ≤ i → map row_of (map g (flat f (drop i l))) ≡ []
   flat-end g f h = ap (λ (m : List Point). map row_of (map g m)) (flat-none f (up_done (length l) i l refl h))
 
--- Points of a silhouette's segments that a loop places and writes: those of the segments from i on are to come, b points each at most.
-pub record Places (b : ℕ) (f : Seg → List Point) (g : Point → Point) (l : List Seg) (out₀ : List (List Float)) (at₀ : ℕ) (out : List (List Float)) (at i : ℕ) : Type 0 where
+-- Where a loop over a silhouette's segments writes their points: those of the segments from i on are to come, b points each at most.
+pub record Places (b : ℕ) (f : Seg → List Point) (l : List Seg) (at₀ at i : ℕ) : Type 0 where
   pub far : i ≤ length l
   pub room : at ≤ at₀ + b * i
-  pub rest : Writing out₀ at₀ (map row_of (map g (flat f l))) out at (map row_of (map g (flat f (drop i l))))
+  pub counted : at + length (flat f (drop i l)) ≡ at₀ + length (flat f l)
 
-pub places_start : (b : ℕ) (f : Seg → List Point) (g : Point → Point) (l : List Seg) (out : List (List Float)) (at : ℕ) → Places b f g l out at out at 0
-places_start b f g l out at = record { far = omega arith; room = omega arith; rest = starts refl }
+pub places_start : (b : ℕ) (f : Seg → List Point) (l : List Seg) (at : ℕ) → Places b f l at at 0
+places_start b f l at = record { far = omega arith; room = omega arith; counted = refl }
 
-module _ {b : ℕ} {f : Seg → List Point} {g : Point → Point} {l : List Seg} {out₀ : List (List Float)} {at₀ : ℕ} {out : List (List Float)} {at i : ℕ}
-    (p : Places b f g l out₀ at₀ out at i) where
-  pub places_more : {s : Seg} {out' : List (List Float)} {at' : ℕ} → i < length l → s ≡ get_or l i no_line → ((s : Seg) → length (f s) ≤ b)
-      → (at' ≡ at + length (f s)) × (out' ≡ sets out at (map row_of (map g (f s))))
-      → Places b f g l out₀ at₀ out' at' (i + 1)
-  places_more {s} {out'} {at'} h is short e =
+module _ {b : ℕ} {f : Seg → List Point} {l : List Seg} {at₀ at i : ℕ} (p : Places b f l at₀ at i) where
+  points-turn : {s : Seg} → i < length l → s ≡ get_or l i no_line → length (flat f (drop i l)) ≡ length (f s) + length (flat f (drop (i + 1) l))
+  points-turn {s} h is =
+      ap length (flat-drop f l i no_line h ∙ ap (λ (s : Seg). f s ++ flat f (drop (i + 1) l)) (sym is))
+      ∙ length-append (f s) (flat f (drop (i + 1) l))
+
+  pub places_more : {s : Seg} {at' : ℕ} → i < length l → s ≡ get_or l i no_line → ((s : Seg) → length (f s) ≤ b) → at' ≡ at + length (f s) → Places b f l at₀ at' (i + 1)
+  places_more {s} h is short e =
       let n = short s in
       let r = p.room in
-      let c = e.0 in
-      record {
-        far = omega arith;
-        room = omega arith;
-        rest = appends-map row_of (map g (f s)) (map g (flat f (drop (i + 1) l))) (flat-turn l i g f h is) e.1 (e.0 ∙ ap (λ (k : ℕ). at + k) (sym (length-map (f s) g))) p.rest;
-      }
+      let c = p.counted in
+      let t = points-turn h is in
+      record { far = omega arith; room = omega arith; counted = omega (arith, c, t, e) }
 
-  pub places_room : {s : Seg} → i < length l → s ≡ get_or l i no_line → at₀ + length (flat f l) ≤ length out₀ → at + length (f s) ≤ length out
-  places_room {s} h is r =
-      let k = p.rest.counted in
-      let w = p.rest.long in
-      let t = ap length (flat-turn l i g f h is) ∙ length-append (map g (f s)) (map g (flat f (drop (i + 1) l))) in
-      let a = length-map (map g (flat f (drop i l))) row_of in
-      let b = length-map (f s) g in
-      let m = length-map (map g (flat f l)) row_of ∙ length-map (flat f l) g in
-      omega (arith, k, w, t, a, b, m, r)
+  pub places_room : {s : Seg} {n m : ℕ} → i < length l → s ≡ get_or l i no_line → n ≡ m → at₀ + length (flat f l) ≤ m → at + length (f s) ≤ n
+  places_room h is long r =
+      let c = p.counted in
+      let t = points-turn h is in
+      omega (arith, c, t, long, r)
 
-  pub places_end : length l ≤ i → (at ≡ at₀ + length (flat f l)) × (out ≡ sets out₀ at₀ (map row_of (map g (flat f l))))
+  pub places_end : length l ≤ i → at ≡ at₀ + length (flat f l)
   places_end h =
-      let e = flat-end l i g f h in
-      (ends-count e p.rest ∙ ap (λ (k : ℕ). at₀ + k) (length-map (map g (flat f l)) row_of ∙ length-map (flat f l) g), ends e p.rest)
+      let c = p.counted in
+      let e = ap length (flat-none f (up_done (length l) i l refl h)) in
+      omega (arith, c, e)
+
+-- What it writes there, each point as g has it.
+abbrev pub Placed : (f : Seg → List Point) (g : Point → Point) (l : List Seg) (out₀ : List (List Float)) (at₀ : ℕ) (out : List (List Float)) (at i : ℕ) → Type 0
+Placed f g l out₀ at₀ out at i = Writing out₀ at₀ (map row_of (map g (flat f l))) out at (map row_of (map g (flat f (drop i l))))
+
+module _ (f : Seg → List Point) (g : Point → Point) (l : List Seg) {out₀ : List (List Float)} {at₀ : ℕ} {out : List (List Float)} {at i : ℕ} (w : Placed f g l out₀ at₀ out at i) where
+  pub placed_more : {s : Seg} {out' : List (List Float)} {at' : ℕ} → i < length l → s ≡ get_or l i no_line → at' ≡ at + length (f s) → out' ≡ sets out at (map row_of (map g (f s)))
+      → Placed f g l out₀ at₀ out' at' (i + 1)
+  placed_more {s} h is n e =
+      appends-map row_of (map g (f s)) (map g (flat f (drop (i + 1) l))) (flat-turn l i g f h is) e (n ∙ ap (λ (k : ℕ). at + k) (sym (length-map (f s) g))) w
+
+  pub placed_end : length l ≤ i → out ≡ sets out₀ at₀ (map row_of (map g (flat f l)))
+  placed_end h = ends (flat-end l i g f h) w
 
 -- ---- the silhouette of a part
 outline-short : (ps : Parts) (o : Outlines) (i : ℕ) → length (outline_of ps o i) ≤ segs_of ps i
@@ -208,15 +214,14 @@ module _ {A : Type 0} {out₀ : List A} {at₀ : ℕ} {all : List A} where
   next_row {out} at k {a} {rest' = rest'} e w = subst (λ (n : ℕ). Writing out₀ at₀ all (set out (at + k) a) n rest') (add_assoc at k 1) (puts e w)
 
 -- the points of a segment are written
-pub drawn-end : (g : Point → Point) {d : Drawn} (s : Seg) {out₀ out : List (List Float)} {at k : ℕ} → d ≡ drawn_of s → k ≤ d.count → d.count ≤ k
+pub drawn-end : (g : Point → Point) {d : Drawn} (s : Seg) {out₀ out : List (List Float)} {at k : ℕ} → d ≡ drawn_of s → d.count ≤ k
     → Writing out₀ at (map row_of (map g (take d.count d.points))) out (at + k) (map row_of (map g (drop k (take d.count d.points))))
-    → (at + d.count ≡ at + length (drawn_points s)) × (out ≡ sets out₀ at (map row_of (map g (drawn_points s))))
-drawn-end g {d} s {out₀} {out} {at} {k} e h l w =
-    let n = (drawn-held s e).0 in
-    let m = (drawn-held s e).1 in
+    → out ≡ sets out₀ at (map row_of (map g (drawn_points s)))
+drawn-end g {d} s {out₀} {at = at} {k} e l w =
+    let n = (drawn_known d s e).1 in
+    let m = (drawn_known d s e).2 in
     let z = rows-done g d.points d.count k (omega (arith, n, m)) l in
-    let x : d.count ≡ length (drawn_points s) = drawn-counted s e in
-    (omega (arith, h, l, x), ends z w ∙ ap (λ (y : Drawn). sets out₀ at (map row_of (map g (take y.count y.points)))) e)
+    ends z w ∙ ap (λ (y : Drawn). sets out₀ at (map row_of (map g (take y.count y.points)))) e
 
 -- ---- what is written of a silhouette, said of its part
 pub of_part : (f : Seg → List Point) (ps : Parts) (o : Outlines) (q : Pose) (i : ℕ) (at : ℕ) (out₀ : List (List Float)) {l : List Seg} {place : Placement} {r : ℕ} {out : List (List Float)}

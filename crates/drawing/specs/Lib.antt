@@ -1,3 +1,4 @@
 pub mod Drawing
 pub mod Samples
 pub mod Prepared
+pub mod Points

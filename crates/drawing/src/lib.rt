@@ -7,16 +7,16 @@ ghost use Rattle.laws.specs.Lists.{flat};
 ghost use Rattle.mechanism.specs.Check.{FewParts};
 ghost use Rattle.mechanism.specs.Description.{start_of_part};
 ghost use Rattle.mechanism.specs.Segments.{outlines_in};
-ghost use Rattle.bodies.specs.Pose.{world_of};
 ghost use Rattle.silhouette.specs.Silhouette.{silhouette_from};
 ghost use Rattle.drawing.specs.Drawing.{is_cut, is_sampled, is_read_cut, body_of_side, is_own, has_own, what_is, side_chosen};
 ghost use Rattle.drawing.specs.Drawing.{drawn_points, polygon_of, solids_of, cuts_of, Laid, Held, row_of, room_for, room_from};
 
 mod outlined;
+pub mod points;
 pub mod prepared;
 pub mod samples;
 
-use bodies::pose::{Placement, Pose, placement_at};
+use bodies::pose::{Pose, placement_at};
 use geometry::{Drawn, Point, Seg};
 use material::{DrawnMaterial, Spot};
 use mechanism::check::{parts_over, segs_counted};
@@ -178,31 +178,36 @@ pub fn side_chosen(ps: Parts, u: Surface, cuts: bool) -> Chosen
 
 // ---- polygons
 
-// Writes the points of a segment as it is drawn, placed, from `at` on.
-fn draw_seg(points: &mut [Spot], at: usize, s: Seg, place: Placement) -> usize
-    requires { at + length (drawn_points s) ≤ length points.old }
-    ensures { (result ≡ at + length (drawn_points s)) × (points.new ≡ sets points.old at (map row_of (map (world_of place) (drawn_points s)))) }
+// Writes the points of a segment as it is drawn, each as `place` has it, from `at` on.
+#[tactic(auto, using(crate::proofs::Segments::drawn_known))]
+fn draw_seg<F: Fn(Point) -> Point>(points: &mut [Spot], at: usize, s: Seg, place: &F) -> usize
+    requires calls { (p : Point) → F.pre place.now p }
+    requires room { at + length (drawn_points s) ≤ length points.old }
+    ensures next { result ≡ at + length (drawn_points s) }
+    ensures written { (g : Point → Point) → ((p : Point) (r : Point) → F.post place.now p r → r ≡ g p) → points.new ≡ sets points.old at (map row_of (map g (drawn_points s))) }
 {
     let d = s.drawn();
     for k in 0..d.count {
-        let p = place.world(d.points[k]);
+        let p = place(d.points[k]);
         points[at + k] = [p.x, p.y];
     }
     at + d.count
 }
 
-// Writes the polygon of a part whose outline starts in row `first`, placed, from `at` on.
-fn draw_polygon(
+// Writes the polygon of a part whose outline starts in row `first`, each point as `place` has it, from `at` on.
+fn draw_polygon<F: Fn(Point) -> Point>(
     points: &mut [Spot],
     at: usize,
     segs: &[SegRow],
     first: usize,
     p: Part,
-    place: Placement,
+    place: &F,
 ) -> usize
-    requires { (p.segs ≤ 48) × (first + p.segs ≤ length segs.now) × (at + length (flat drawn_points (silhouette_from (outlines_in segs.now) first p)) ≤ length points.old) }
-    ensures { let drawn = flat drawn_points (silhouette_from (outlines_in segs.now) first p) in
-        (result ≡ at + length drawn) × (points.new ≡ sets points.old at (map row_of (map (world_of place) drawn))) }
+    requires calls { (x : Point) → F.pre place.now x }
+    requires room { (p.segs ≤ 48) × (first + p.segs ≤ length segs.now) × (at + length (flat drawn_points (silhouette_from (outlines_in segs.now) first p)) ≤ length points.old) }
+    ensures next { result ≡ at + length (flat drawn_points (silhouette_from (outlines_in segs.now) first p)) }
+    ensures written { (g : Point → Point) → ((x : Point) (r : Point) → F.post place.now x r → r ≡ g x)
+        → points.new ≡ sets points.old at (map row_of (map g (flat drawn_points (silhouette_from (outlines_in segs.now) first p)))) }
 {
     let mut to = at;
     for i in 0..silhouette_count(p) {
@@ -237,14 +242,8 @@ impl Outlined for PlacedParts<'_> {
     fn draw_part(&self, points: &mut [Spot], at: usize, i: usize) -> usize {
         let p = self.parts.part[i];
         let first = start_of_part(*self.parts, i);
-        draw_polygon(
-            points,
-            at,
-            self.segs,
-            first,
-            p,
-            placement_at(self.q, p.body),
-        )
+        let place = placement_at(self.q, p.body);
+        draw_polygon(points, at, self.segs, first, p, &|x| place.world(x))
     }
 }
 

@@ -116,21 +116,31 @@ pub fn on_line(a: Point, b: Point, k: u32) -> Point
     }
 }
 
-// Writes seventeen points along the line from a to b, placed, from `at` on.
-fn put_line(samples: &mut [Spot], at: usize, a: Point, b: Point, place: Placement) -> usize
-    requires { at + 17 ≤ length samples.old }
-    ensures { (result ≡ at + 17) × (samples.new ≡ sets samples.old at (map row_of (map (world_of place) (list_in (on_line a b) 17 0)))) }
+// Writes seventeen points along the line from a to b, each as `place` has it, from `at` on.
+fn put_line<F: Fn(Point) -> Point>(
+    samples: &mut [Spot],
+    at: usize,
+    a: Point,
+    b: Point,
+    place: &F,
+) -> usize
+    requires calls { (p : Point) → F.pre place.now p }
+    requires room { at + 17 ≤ length samples.old }
+    ensures next { result ≡ at + 17 }
+    ensures written { (g : Point → Point) → ((p : Point) (r : Point) → F.post place.now p r → r ≡ g p) → samples.new ≡ sets samples.old at (map row_of (map g (list_in (on_line a b) 17 0))) }
 {
     for k in 0..17 {
-        let p = place.world(on_line(a, b, k));
+        let p = place(on_line(a, b, k));
         samples[at + k as usize] = [p.x, p.y];
     }
     at + 17
 }
 
-fn put_points(samples: &mut [Spot], at: usize, s: Seg, place: Placement) -> usize
-    requires { at + 17 ≤ length samples.old }
-    ensures { (result ≡ at + length (sample_points s)) × (samples.new ≡ sets samples.old at (map row_of (map (world_of place) (sample_points s)))) }
+fn put_points<F: Fn(Point) -> Point>(samples: &mut [Spot], at: usize, s: Seg, place: &F) -> usize
+    requires calls { (p : Point) → F.pre place.now p }
+    requires room { at + 17 ≤ length samples.old }
+    ensures next { result ≡ at + length (sample_points s) }
+    ensures written { (g : Point → Point) → ((p : Point) (r : Point) → F.post place.now p r → r ≡ g p) → samples.new ≡ sets samples.old at (map row_of (map g (sample_points s))) }
 {
     match s {
         Seg::Line { a, b } => put_line(samples, at, a, b, place),
@@ -138,10 +148,18 @@ fn put_points(samples: &mut [Spot], at: usize, s: Seg, place: Placement) -> usiz
     }
 }
 
-// Writes the samples of a segment, none where it is a mouth.
-fn put_seg(samples: &mut [Spot], at: usize, s: Seg, place: Placement, mouths: &[Mouth]) -> usize
-    requires { at + 17 ≤ length samples.old }
-    ensures { (result ≡ at + length (samples_of (mouths_in mouths.now) s)) × (samples.new ≡ sets samples.old at (map row_of (map (world_of place) (samples_of (mouths_in mouths.now) s)))) }
+// Writes the samples of a segment, each as `place` has it; none where it is a mouth.
+pub(crate) fn put_seg<F: Fn(Point) -> Point>(
+    samples: &mut [Spot],
+    at: usize,
+    s: Seg,
+    place: &F,
+    mouths: &[Mouth],
+) -> usize
+    requires calls { (p : Point) → F.pre place.now p }
+    requires room { at + 17 ≤ length samples.old }
+    ensures next { result ≡ at + length (samples_of (mouths_in mouths.now) s) }
+    ensures written { (g : Point → Point) → ((p : Point) (r : Point) → F.post place.now p r → r ≡ g p) → samples.new ≡ sets samples.old at (map row_of (map g (samples_of (mouths_in mouths.now) s))) }
 {
     if is_mouth(mouths, s.start(), s.end()) {
         return at;
@@ -154,5 +172,5 @@ pub fn seg_samples(samples: &mut SegSpots, s: Seg, place: Placement, mouths: &[M
     ensures { let points = samples_of (mouths_in mouths.now) s in
         (result ≡ length points) × (samples.new ≡ sets samples.old 0 (map row_of (map (world_of place) points))) × (result ≤ 17) }
 {
-    put_seg(samples, 0, s, place, mouths)
+    put_seg(samples, 0, s, &|p| place.world(p), mouths)
 }

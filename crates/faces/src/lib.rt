@@ -70,14 +70,21 @@ fn over(a0: Point, a1: Point, n: Point, b0: Point, b1: Point, deepest: f64) -> f
     deepest
 }
 
-// All faces of B, placed, against A's face from a0 to a1.
-fn past<S: Side>(a0: Point, a1: Point, n: Point, b: &S, place: Placement, deepest: f64) -> f64
-    ensures { result ≡ foldl (past_of a0 a1 n place) deepest (faces_in (S.features b.now)) }
+// A side with its placement in the world.
+#[derive(Drop)]
+pub struct Placed<'a, S> {
+    pub side: &'a S,
+    pub place: Placement,
+}
+
+// All faces of B against A's face from a0 to a1.
+fn past<S: Side>(a0: Point, a1: Point, n: Point, b: &Placed<S>, deepest: f64) -> f64
+    ensures { result ≡ foldl (past_of a0 a1 n b.now.place) deepest (faces_in (S.features b.now.side.now)) }
 {
     let mut d = deepest;
-    for i in 0..b.faces() {
-        let f = b.face(i).face;
-        d = over(a0, a1, n, place.world(f.a), place.world(f.b), d);
+    for i in 0..b.side.faces() {
+        let f = b.side.face(i).face;
+        d = over(a0, a1, n, b.place.world(f.a), b.place.world(f.b), d);
     }
     d
 }
@@ -90,17 +97,17 @@ fn is_long(e2: f64) -> bool
 }
 
 // The deepest point of a face of B, within the span of a face of A, on the material side of that face's line; zero where none is.
-fn faces_overlap<S: Side>(a: &S, pa: Placement, b: &S, pb: Placement) -> f64
-    ensures { result ≡ faces_overlap (faces_in (S.features a.now)) pa (faces_in (S.features b.now)) pb }
+fn faces_overlap<S: Side>(a: &Placed<S>, b: &Placed<S>) -> f64
+    ensures { result ≡ faces_overlap (faces_in (S.features a.now.side.now)) a.now.place (faces_in (S.features b.now.side.now)) b.now.place }
 {
     let mut deepest = 0.0;
-    for i in 0..a.faces() {
-        let f = a.face(i).face;
-        let a0 = pa.world(f.a);
-        let a1 = pa.world(f.b);
+    for i in 0..a.side.faces() {
+        let f = a.side.face(i).face;
+        let a0 = a.place.world(f.a);
+        let a1 = a.place.world(f.b);
         let e = sub(a1, a0);
         if is_long(dot(e, e)) {
-            deepest = past(a0, a1, pa.rotate(f.normal.vector()), b, pb, deepest);
+            deepest = past(a0, a1, a.place.rotate(f.normal.vector()), b, deepest);
         }
     }
     deepest
@@ -111,7 +118,15 @@ fn faces_overlap<S: Side>(a: &S, pa: Placement, b: &S, pb: Placement) -> f64
 fn overlap_of<S: Side>(a: &S, b: &S, q: Pose) -> f64
     ensures { result ≡ sides_overlap (record { a = S.features a.now; b = S.features b.now }) q }
 {
-    faces_overlap(a, placement_at(q, a.body()), b, placement_at(q, b.body()))
+    let a = Placed {
+        side: a,
+        place: placement_at(q, a.body()),
+    };
+    let b = Placed {
+        side: b,
+        place: placement_at(q, b.body()),
+    };
+    faces_overlap(&a, &b)
 }
 
 // The same of a pair's features.

@@ -19,8 +19,9 @@ use Rattle.laws.proofs.Order.{lt_trans, lt_eq, eq-lt}
 use Rattle.ieee.specs.Consts.{zero_f, infinity_f}
 use Rattle.ieee.proofs.MinRoot.{lt_le, le_cases, le_not_lt}
 use Rattle.geometry.specs.declared.Point.{Point}
-use Rattle.material.specs.Material.{Edge, nowhere, edge_at, cross_of, turned_by, inside_of, poly_at, point_of, points_of, between, material_of, holds_of, square_depth}
+use Rattle.material.specs.Material.{Edge, nowhere, edge_at, cross_of, turned_by, inside_of, poly_at, point_of, points_of, between, material_of, holds_of, square_depth, drawn_material}
 use Rattle.material.specs.Range.{low_of, high_of, range_with, range_of, outside_of}
+use Rattle.material.specs.declared.DrawnMaterial.{DrawnMaterial}
 use Rattle.material.specs.declared.Range.{Range}
 use Rattle.material.proofs.Parts.{row_point, points_of-rows}
 
@@ -156,12 +157,8 @@ module _ (l : List (List Float)) (starts : List ℕ) (solids all : ℕ) (p : Poi
     | inr t ↦ not_held p l false ((range-covers l).over p.y t) starts solids all
   ]
 
-  -- THE LAW: outside the range of all points the square of the depth is zero
-  pub within-square : (r : Range) → r ≡ range_of l
-      → cond (outside_of r.lo r.hi p.y) zero_f (square_depth (material_of l starts solids all) p) ≡ square_depth (material_of l starts solids all) p
-  unfolding square_depth
-  within-square r e = rw e (go (outside_of (range_of l).lo (range_of l).hi p.y) refl)
-    where
-      go : (b : Bool) → outside_of (range_of l).lo (range_of l).hi p.y ≡ b → cond b zero_f (square_depth (material_of l starts solids all) p) ≡ square_depth (material_of l starts solids all) p
-      go true h = sym (cond_no _ _ (outside_held h))
-      go false h = refl
+-- THE LAW: outside the range of all points the square of the depth is zero
+pub outside_square : (m : DrawnMaterial) (r : Range) (p : Point) → r ≡ range_of m.points.now → outside_of r.lo r.hi p.y ≡ true → square_depth (drawn_material m) p ≡ zero_f
+unfolding square_depth
+outside_square m r p e h =
+    cond_no _ _ (outside_held m.points.now m.starts.now m.solids m.all p (subst (λ (k : Range). outside_of k.lo k.hi p.y ≡ true) e h))

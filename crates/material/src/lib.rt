@@ -1,16 +1,16 @@
 // Drawn material as polygons in lent arrays: inside, depth, and the largest square of the depths of many points (contact/rows.rs: `Material`, `inside`).
 #![tactic(auto)]
 
-ghost use Rattle.std.specs.Prelude.{◌≡◌, false, cond, ◌+◌, ◌-◌, ◌%◌, ◌^◌, ◌<◌, ◌≤◌, get_or};
+ghost use Rattle.std.specs.Prelude.{◌≡◌, false, ◌+◌, ◌-◌, ◌%◌, ◌^◌, ◌<◌, ◌≤◌, get_or};
 ghost use Rattle.std.specs.Float.Ieee.{is_nan};
 ghost use Rattle.laws.specs.Lists.{list_in, any};
-ghost use Rattle.ieee.specs.Consts.{zero_f};
-ghost use Rattle.ieee.specs.Num.{max_of};
 ghost use Rattle.material.specs.Material.{cross_of, inside_of, holds_of, square_of, least_in, least_among, Serves, square_depth, depth_of, points_of, between, poly_at, drawn_material, edges_of};
 ghost use Rattle.material.specs.Range.{low_of, high_of, range_of, outside_of};
 
+pub mod ranged;
+
 use geometry::Point;
-use ieee::num::{clamp, infinity, max};
+use ieee::num::{clamp, infinity};
 use ieee::root::root;
 
 // A point by its two coordinates.
@@ -152,18 +152,6 @@ impl DrawnMaterial<'_> {
         ensures { result ≡ depth_of (drawn_material self.now) p }
     {
         root(self.square_depth(p, 0.0 / 0.0))
-    }
-
-    // The largest of d and the square of p's depth, with the points outside a range settled at once.
-    #[tactic(auto, using(crate::proofs::Serves::serves_max))]
-    pub fn deeper_square(&self, range: Range, p: Point, d: f64) -> f64
-        ensures { result ≡ max_of d (cond (outside_of range.lo range.hi p.y) zero_f (square_depth (drawn_material self.now) p)) }
-    {
-        if is_outside(range.lo, range.hi, p.y) {
-            max(d, 0.0)
-        } else {
-            max(d, self.square_depth(p, d))
-        }
     }
 }
 

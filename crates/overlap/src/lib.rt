@@ -13,12 +13,12 @@ ghost use Rattle.mechanism.specs.Segments.{outlines_in, described, segs_counted}
 ghost use Rattle.bodies.specs.Pose.{world_of};
 ghost use Rattle.silhouette.specs.Silhouette.{silhouette_from};
 ghost use Rattle.material.specs.Material.{points_of, drawn_material, deepest_square};
-ghost use Rattle.material.specs.Range.{range_of};
 ghost use Rattle.drawing.specs.Drawing.{is_sampled, is_read_cut, what_is, chosen_material};
 ghost use Rattle.drawing.specs.Samples.{mouths_in, samples_of, part_samples};
 ghost use Rattle.overlap.specs.Overlap.{sunk_of, features_overlap, center_overlap, pair_overlap, pair_overlap_at, is_in};
 ghost use Rattle.overlap.specs.Overlap.{all_parts, pair_overlap_answer, overlap_answer, parts_overlap, parts_overlap_answer, owner_at, as_owners};
 
+mod posed;
 pub mod prepared;
 mod sunk;
 
@@ -28,12 +28,14 @@ use drawing::samples::{Mouth, draw_mouths, seg_samples};
 use drawing::{Chosen, Polygons, draw_from, is_own, is_read_cut, is_sampled, side_chosen, what_is};
 use geometry::Point;
 use ieee::num::max;
-use material::{DrawnMaterial, Range, Spot};
+use material::Spot;
+use material::ranged::Ranged;
 use mechanism::check::{call_checked, check_in, pair_drawn, segs_counted, then_called};
 use mechanism::pair::{ContactPair, PairGeometry, Surface};
 use mechanism::part::Part;
 use mechanism::segments::{SegRow, put_segs};
 use mechanism::{Mechanism, Outlines, Pairs, Parts};
+use posed::Posed;
 use sides::center_of;
 use silhouette::rows::{silhouette_count, silhouette_seg};
 use silhouette::start_of_part;
@@ -42,22 +44,20 @@ use sunk::{Both, Sampled, sunk_both};
 // ---- sunk
 
 // The largest of `from` and the squares of the depths of the samples.
-fn deepest_in(m: &DrawnMaterial, range: Range, samples: &[Spot], from: f64) -> f64
-    requires { range ≡ range_of m.now.points.now }
-    ensures { result ≡ deepest_square (drawn_material m.now) from (points_of samples.now) }
+fn deepest_in(m: &Ranged, samples: &[Spot], from: f64) -> f64
+    ensures { result ≡ deepest_square (drawn_material m.now.material) from (points_of samples.now) }
 {
     let mut d = from;
     for v in samples {
         let p = Point { x: v[0], y: v[1] };
-        d = m.deeper_square(range, p, d);
+        d = m.deeper_square(p, d);
     }
     d
 }
 
 // The same of the samples of a part whose outline starts in row `first`, placed.
 fn sunk_part(
-    m: &DrawnMaterial,
-    range: Range,
+    m: &Ranged,
     mouths: &[Mouth],
     segs: &[SegRow],
     first: usize,
@@ -65,56 +65,52 @@ fn sunk_part(
     place: Placement,
     from: f64,
 ) -> f64
-    requires { (p.segs ≤ 48) × (first + p.segs ≤ length segs.now) × (range ≡ range_of m.now.points.now) }
-    ensures { result ≡ deepest_square (drawn_material m.now) from (map (world_of place) (flat (samples_of (mouths_in mouths.now)) (silhouette_from (outlines_in segs.now) first p))) }
+    requires { (p.segs ≤ 48) × (first + p.segs ≤ length segs.now) }
+    ensures { result ≡ deepest_square (drawn_material m.now.material) from (map (world_of place) (flat (samples_of (mouths_in mouths.now)) (silhouette_from (outlines_in segs.now) first p))) }
 {
     let mut samples = [[0.0; 2]; 17];
     let mut d = from;
     for k in 0..silhouette_count(p) {
         let s = silhouette_seg(segs, first, p, k);
         let n = seg_samples(&mut samples, s, place, mouths);
-        d = deepest_in(m, range, &samples[..n], d);
+        d = deepest_in(m, &samples[..n], d);
     }
     d
 }
 
-// Parts with their outlines in rows and the mouths of their cuts, at a pose.
+// Parts at a pose with the mouths of their cuts.
 #[derive(Clone, Copy)]
 struct PlacedSamples<'a> {
-    parts: &'a Parts,
-    segs: &'a [SegRow],
+    posed: Posed<'a>,
     mouths: &'a [Mouth],
-    q: Pose,
-
-    ghost few: { FewParts parts.now },
-
-    ghost there: { start_of_part parts.now parts.now.count ≤ length segs.now },
 }
 
 impl Sampled for PlacedSamples<'_> {
-    ghost count = { λ s. s.parts.now.count };
+    ghost count = { λ s. s.posed.parts.now.count };
 
-    ghost samples = { λ s. part_samples s.parts.now (outlines_in s.segs.now) s.q (mouths_in s.mouths.now) };
+    ghost samples = { λ s. part_samples s.posed.parts.now (outlines_in s.posed.segs.now) s.posed.q (mouths_in s.mouths.now) };
 
-    ghost material = { λ s. chosen_material s.parts.now (outlines_in s.segs.now) s.q };
+    ghost material = { λ s. chosen_material s.posed.parts.now (outlines_in s.posed.segs.now) s.posed.q };
 
-    ghost room = { λ s. 16 * start_of_part s.parts.now s.parts.now.count };
+    ghost room = { λ s. 16 * start_of_part s.posed.parts.now s.posed.parts.now.count };
 
-    ghost few = { λ s. s.few.count };
+    ghost few = { λ s. s.posed.few.count };
 
     fn count(&self) -> usize {
-        self.parts.count
+        self.posed.parts.count
     }
 
-    fn deepest(&self, m: &DrawnMaterial, range: Range, i: usize, from: f64) -> f64 {
-        let p = self.parts.part[i];
-        let first = start_of_part(*self.parts, i);
-        let place = placement_at(self.q, p.body);
-        sunk_part(m, range, self.mouths, self.segs, first, p, place, from)
+    fn deepest(&self, m: &Ranged, i: usize, from: f64) -> f64 {
+        let s = &self.posed;
+        let p = s.parts.part[i];
+        let first = start_of_part(*s.parts, i);
+        let place = placement_at(s.q, p.body);
+        sunk_part(m, self.mouths, s.segs, first, p, place, from)
     }
 
     fn draw(&self, points: &mut [Spot], starts: &mut [usize], c: Chosen) -> Polygons {
-        draw_from(points, starts, self.parts, self.segs, self.q, c)
+        let s = &self.posed;
+        draw_from(points, starts, s.parts, s.segs, s.q, c)
     }
 }
 
@@ -122,27 +118,23 @@ impl Sampled for PlacedSamples<'_> {
 fn sunk_between(
     points: &mut [Spot],
     mouths: &mut [Mouth],
-    ps: &Parts,
-    segs: &[SegRow],
-    q: Pose,
+    s: &Posed,
     wa: Chosen,
     ca: Chosen,
     wb: Chosen,
     cb: Chosen,
 ) -> Both
-    requires { let n = start_of_part ps.now ps.now.count in
-        FewParts ps.now × (n ≤ length segs.now) × (16 * n ≤ length points.old) × (2 * n ≤ length mouths.old) }
-    ensures { let o = outlines_in segs.now in
-        (result.into ≡ sunk_of ps.now o q (owner_at wa) (chosen_material ps.now o q cb)) × (result.back ≡ sunk_of ps.now o q (owner_at wb) (chosen_material ps.now o q ca)) }
+    requires { let n = start_of_part s.now.parts.now s.now.parts.now.count in (16 * n ≤ length points.old) × (2 * n ≤ length mouths.old) }
+    ensures { let o = outlines_in s.now.segs.now in
+        (result.into ≡ sunk_of s.now.parts.now o s.now.q (owner_at wa) (chosen_material s.now.parts.now o s.now.q cb))
+        × (result.back ≡ sunk_of s.now.parts.now o s.now.q (owner_at wb) (chosen_material s.now.parts.now o s.now.q ca)) }
 {
-    let n = draw_mouths(mouths, *ps, segs);
-    let s = PlacedSamples {
-        parts: ps,
-        segs,
+    let n = draw_mouths(mouths, *s.parts, s.segs);
+    let placed = PlacedSamples {
+        posed: *s,
         mouths: &mouths[..n],
-        q,
     };
-    sunk_both(points, &s, wa, ca, wb, cb)
+    sunk_both(points, &placed, wa, ca, wb, cb)
 }
 
 // ---- pair_overlap
@@ -162,63 +154,45 @@ fn owners_of<F: Fn(usize) -> bool>(ps: &Parts, names: F) -> Chosen
 fn features_overlap(
     points: &mut [Spot],
     mouths: &mut [Mouth],
-    ps: &Parts,
-    segs: &[SegRow],
-    q: Pose,
+    s: &Posed,
     a: Surface,
     b: Surface,
 ) -> f64
-    requires { let n = start_of_part ps.now ps.now.count in
-        FewParts ps.now × (n ≤ length segs.now) × (16 * n ≤ length points.old) × (2 * n ≤ length mouths.old) }
-    ensures { result ≡ features_overlap ps.now (outlines_in segs.now) q a b }
+    requires { let n = start_of_part s.now.parts.now s.now.parts.now.count in (16 * n ≤ length points.old) × (2 * n ≤ length mouths.old) }
+    ensures { result ≡ features_overlap s.now.parts.now (outlines_in s.now.segs.now) s.now.q a b }
 {
-    let s = sunk_between(
+    let d = sunk_between(
         points,
         mouths,
-        ps,
-        segs,
-        q,
-        owners_of(ps, |i| is_own(a, i)),
-        side_chosen(*ps, a, true),
-        owners_of(ps, |i| is_own(b, i)),
-        side_chosen(*ps, b, true),
+        s,
+        owners_of(s.parts, |i| is_own(a, i)),
+        side_chosen(*s.parts, a, true),
+        owners_of(s.parts, |i| is_own(b, i)),
+        side_chosen(*s.parts, b, true),
     );
-    max(max(0.0, s.into), s.back)
+    max(max(0.0, d.into), d.back)
 }
 
-fn center_overlap(
-    points: &mut [Spot],
-    ps: &Parts,
-    segs: &[SegRow],
-    q: Pose,
-    a: Surface,
-    b: Surface,
-) -> f64
-    requires { FewParts ps.now × (start_of_part ps.now ps.now.count ≤ length segs.now) × (16 * start_of_part ps.now ps.now.count ≤ length points.old) × (side_drawn ps.now b ≡ true) }
-    ensures { result ≡ center_overlap ps.now (outlines_in segs.now) q a b }
+fn center_overlap(points: &mut [Spot], s: &Posed, a: Surface, b: Surface) -> f64
+    requires { (side_drawn s.now.parts.now b ≡ true) × (16 * start_of_part s.now.parts.now s.now.parts.now.count ≤ length points.old) }
+    ensures { result ≡ center_overlap s.now.parts.now (outlines_in s.now.segs.now) s.now.q a b }
 {
-    let c = center_of(*ps, segs, b, true);
-    let place = placement_at(q, c.body);
+    let c = center_of(*s.parts, s.segs, b, true);
+    let place = placement_at(s.q, c.body);
     let mut starts = [0usize; 33];
-    let n = draw_from(points, &mut starts, ps, segs, q, side_chosen(*ps, a, false));
+    let w = side_chosen(*s.parts, a, false);
+    let n = draw_from(points, &mut starts, s.parts, s.segs, s.q, w);
     n.held(points, &starts).depth(place.world(c.at))
 }
 
-fn overlap_of_drawn(
-    points: &mut [Spot],
-    mouths: &mut [Mouth],
-    ps: &Parts,
-    segs: &[SegRow],
-    q: Pose,
-    p: ContactPair,
-) -> f64
-    requires { let n = start_of_part ps.now ps.now.count in
-        (pair_drawn ps.now p ≡ true) × (n ≤ length segs.now) × (16 * n ≤ length points.old) × (2 * n ≤ length mouths.old) }
-    ensures { result ≡ pair_overlap ps.now (outlines_in segs.now) q p }
+fn overlap_of_drawn(points: &mut [Spot], mouths: &mut [Mouth], s: &Posed, p: ContactPair) -> f64
+    requires { let n = start_of_part s.now.parts.now s.now.parts.now.count in
+        (pair_drawn s.now.parts.now p ≡ true) × (16 * n ≤ length points.old) × (2 * n ≤ length mouths.old) }
+    ensures { result ≡ pair_overlap s.now.parts.now (outlines_in s.now.segs.now) s.now.q p }
 {
     match p.geometry {
-        PairGeometry::Features => features_overlap(points, mouths, ps, segs, q, p.a, p.b),
-        PairGeometry::CenterBearing => center_overlap(points, ps, segs, q, p.a, p.b),
+        PairGeometry::Features => features_overlap(points, mouths, s, p.a, p.b),
+        PairGeometry::CenterBearing => center_overlap(points, s, p.a, p.b),
     }
 }
 
@@ -235,7 +209,8 @@ fn overlap_over(
     ensures { result ≡ pair_overlap_at ps.now (outlines_in segs.now) q p }
 {
     if pair_drawn(*ps, p) {
-        return overlap_of_drawn(points, mouths, ps, segs, q, p);
+        let s = Posed { parts: ps, segs, q };
+        return overlap_of_drawn(points, mouths, &s, p);
     }
     0.0
 }
@@ -277,7 +252,12 @@ fn pair_answer(
         true,
     )?;
     let p = pair_at(&m.pairs, pair);
-    Ok(overlap_of_drawn(points, mouths, &m.parts, segs, q, p))
+    let s = Posed {
+        parts: &m.parts,
+        segs,
+        q,
+    };
+    Ok(overlap_of_drawn(points, mouths, &s, p))
 }
 
 // The same with room of its own for so many segments, drawn points and mouths of cuts.
@@ -411,18 +391,21 @@ fn overlap_of_parts(m: &Mechanism, q: Pose, a: &[usize], b: &[usize]) -> f64
     let mut points = [[0.0; 2]; 6144];
     let mut mouths = [[0.0; 4]; 768];
     put_segs(&mut segs, m.outlines, segs_counted(m.parts));
-    let s = sunk_between(
+    let s = Posed {
+        parts: ps,
+        segs: &segs,
+        q,
+    };
+    let d = sunk_between(
         &mut points,
         &mut mouths,
-        ps,
-        &segs,
-        q,
+        &s,
         wa,
         owners_chosen(ps, wa),
         wb,
         owners_chosen(ps, wb),
     );
-    max(s.into, s.back)
+    max(d.into, d.back)
 }
 
 // How deep the parts of two lists stand in one another at a pose.

@@ -4,7 +4,6 @@ ghost use Rattle.laws.specs.Lists.{list_in};
 ghost use Rattle.ieee.specs.Consts.{zero_f};
 ghost use Rattle.ieee.specs.Num.{max_of};
 ghost use Rattle.material.specs.Material.{drawn_material, deepest_square};
-ghost use Rattle.material.specs.Range.{range_of};
 ghost use Rattle.bodies.specs.Pose.{world_of};
 ghost use Rattle.strips.specs.Strips.{sampled_at, table_rows, row_of_material, row_of_sampled};
 ghost use Rattle.strips.proofs.Bounds.{at-most_small};
@@ -18,28 +17,21 @@ use bodies::{Bodies, Problem};
 use drawing::prepared::{all_drawn, choice_at, draw_in, part_count};
 use drawing::{Chosen, Polygons};
 use ieee::num::max;
-use material::{DrawnMaterial, Range, Spot};
+use material::Spot;
+use material::ranged::Ranged;
 use mechanism::check::then_called;
 use strips::tables::Tables;
 use strips::{row_a, row_b, row_of_material, row_of_sampled};
 
 // The largest of `from` and the squares of the depths of n samples from row `first` on, placed.
-fn sunk_part(
-    m: &DrawnMaterial,
-    range: Range,
-    t: &Tables,
-    first: usize,
-    n: usize,
-    place: Placement,
-    from: f64,
-) -> f64
-    requires { (first ≤ 65535) × (n ≤ 1598) × (range ≡ range_of m.now.points.now) }
-    ensures { result ≡ deepest_square (drawn_material m.now) from (map (world_of place) (list_in (sampled_at (table_rows t.now)) n first)) }
+fn sunk_part(m: &Ranged, t: &Tables, first: usize, n: usize, place: Placement, from: f64) -> f64
+    requires { (first ≤ 65535) × (n ≤ 1598) }
+    ensures { result ≡ deepest_square (drawn_material m.now.material) from (map (world_of place) (list_in (sampled_at (table_rows t.now)) n first)) }
 {
     let mut d = from;
     for i in 0..n {
         let p = place.world(t.sampled_point(first + i));
-        d = m.deeper_square(range, p, d);
+        d = m.deeper_square(p, d);
     }
     d
 }
@@ -66,10 +58,10 @@ impl Sampled for PlacedTables<'_> {
         part_count(self.tables)
     }
 
-    fn deepest(&self, m: &DrawnMaterial, range: Range, i: usize, from: f64) -> f64 {
+    fn deepest(&self, m: &Ranged, i: usize, from: f64) -> f64 {
         let p = self.tables.part(i);
         let place = placement_at(self.q, p.body);
-        sunk_part(m, range, self.tables, p.sampled, p.samples, place, from)
+        sunk_part(m, self.tables, p.sampled, p.samples, place, from)
     }
 
     fn draw(&self, points: &mut [Spot], starts: &mut [usize], c: Chosen) -> Polygons {

@@ -2,7 +2,6 @@
 ghost use Rattle.std.specs.Prelude.{◌≡◌, ℕ, List, ◌<◌, ◌≤◌, length};
 ghost use Rattle.geometry.specs.declared.Point.{Point};
 ghost use Rattle.material.specs.Material.{Material, drawn_material, deepest_square};
-ghost use Rattle.material.specs.Range.{range_of};
 ghost use Rattle.material.specs.declared.DrawnMaterial.{DrawnMaterial};
 ghost use Rattle.drawing.specs.Drawing.{Held};
 ghost use Rattle.drawing.specs.declared.Chosen.{Chosen};
@@ -10,7 +9,8 @@ ghost use Rattle.overlap.specs.Overlap.{owner_at, sunk_among};
 
 use drawing::{Chosen, Polygons};
 use ieee::root::root;
-use material::{DrawnMaterial, Range, Spot, y_range};
+use material::ranged::Ranged;
+use material::{DrawnMaterial, Spot};
 
 // Parts that are sampled and drawn at a pose, however they are held.
 pub trait Sampled {
@@ -29,9 +29,9 @@ pub trait Sampled {
         ensures { result ≡ count self.now };
 
     // The largest of `from` and the squares of the depths of the samples of part i.
-    fn deepest(&self, m: &DrawnMaterial, range: Range, i: usize, from: f64) -> f64
-        requires { (i < count self.now) × (range ≡ range_of m.now.points.now) }
-        ensures { result ≡ deepest_square (drawn_material m.now) from (samples self.now i) };
+    fn deepest(&self, m: &Ranged, i: usize, from: f64) -> f64
+        requires { i < count self.now }
+        ensures { result ≡ deepest_square (drawn_material m.now.material) from (samples self.now i) };
 
     fn draw(&self, points: &mut [Spot], starts: &mut [usize], c: Chosen) -> Polygons
         requires { (room self.now ≤ length points.old) × (33 ≤ length starts.old) }
@@ -44,11 +44,11 @@ pub trait Sampled {
 fn sunk_in<S: Sampled>(m: &DrawnMaterial, s: &S, w: Chosen) -> f64
     ensures { result ≡ sunk_among (S.samples s.now) (S.count s.now) (owner_at w) (drawn_material m.now) }
 {
-    let range = y_range(m.points);
+    let ranged = m.ranged();
     let mut d = 0.0;
     for i in 0..s.count() {
         if w.what[i] == 1 {
-            d = s.deepest(m, range, i, d);
+            d = s.deepest(&ranged, i, d);
         }
     }
     root(d)

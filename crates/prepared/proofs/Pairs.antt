@@ -42,7 +42,7 @@ use Rattle.overlap.specs.Overlap.{owner_in, sunk_of, overlap_by, pair_overlap}
 use Rattle.overlap.specs.Prepared.{sunk_in, pair_overlap_in}
 use Rattle.tables.specs.Tables.{geometry_of, less_cuts}
 use Rattle.tables.proofs.Features.{features_of, cuts_of, side-a, side-b, geometry_a, center_b, pair-in, material_a, material_b, sampled_a, sampled_b}
-use Rattle.tables.proofs.Points.{side-read}
+use Rattle.drawing.proofs.ReadBack.{side-read}
 use Rattle.prepared.specs.Prepared.{Holds}
 use Rattle.prepared.proofs.Sunk.{sunk_read}
 use Rattle.std.proofs.Common.{Option, Ok}

@@ -16,12 +16,13 @@ use Rattle.mechanism.specs.Description.{pair_at, segs_of}
 use Rattle.mechanism.specs.declared.Mechanism.{Mechanism}
 use Rattle.mechanism.proofs.Checks.{accepted-few}
 use Rattle.drawing.specs.Drawing.{row_of}
-use Rattle.tables.specs.Tables.{up_to, Agrees, drawn_of, sampled_of, part_table, of_pair, lent_rows, prepared_over}
+use Rattle.tables.specs.Tables.{of_pair, lent_rows, prepared_over}
+use Rattle.drawing.specs.Points.{up_to, Agrees, drawn_of, sampled_of, part_table}
 use Rattle.tables.specs.Tables.{pair_faces, pair_face_names, pair_discs, pair_disc_names, pair_sides, pair_centers, pair_choices}
 use Rattle.tables.specs.declared.Arrays.{Arrays}
 use Rattle.tables.proofs.Known.{pair-faces, pair-face-names, pair-discs, pair-disc_names}
-use Rattle.tables.proofs.Puts.{up-within, drawn-each, sampled_each}
-use Rattle.tables.proofs.Points.{sets-agrees, table_long}
+use Rattle.drawing.proofs.Puts.{up-within, drawn-each, sampled_each}
+use Rattle.drawing.proofs.ReadBack.{sets-agrees, table_long}
 use Rattle.prepared.specs.Prepared.{Holds, Lent, PrepareReads}
 use Rattle.prepared.proofs.Whole.{prepared_reads}
 use Rattle.std.proofs.Common.{Ok}

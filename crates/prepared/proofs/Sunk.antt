@@ -25,8 +25,9 @@ use Rattle.drawing.specs.Samples.{mouths_of, part_samples}
 use Rattle.drawing.specs.declared.Chosen.{Chosen}
 use Rattle.overlap.specs.Overlap.{owner_in, sunk_of}
 use Rattle.overlap.specs.Prepared.{samples_in, sunk_in}
-use Rattle.tables.specs.Tables.{Agrees, sampled_row, sampled_table, part_table}
-use Rattle.tables.proofs.Points.{parts-in, samples_read}
+use Rattle.tables.specs.Tables.{sampled_row}
+use Rattle.drawing.specs.Points.{Agrees, sampled_table, part_table}
+use Rattle.drawing.proofs.ReadBack.{parts-in, samples_read}
 
 -- ---- a fold over the indexes that pass, with two lists that are the same at each of them
 module _ (step : Float → List Point → Float) (f g : ℕ → List Point) (p : ℕ → Bool) where

@@ -14,8 +14,10 @@ use Rattle.prepared_rows.specs.Prepared.{all_rows, all_grads, all_slips, bounds_
 use Rattle.reading.specs.Reading.{pair_readings, reading_of}
 use Rattle.reading.specs.Prepared.{pair_readings_in, read_in, read_checked}
 use Rattle.strips.specs.Strips.{TableRows}
-use Rattle.tables.specs.Tables.{Agrees, lent_rows, prepared_over}
-use Rattle.tables.specs.Tables.{face_table, face_name_table, disc_table, disc_name_table, side_table, center_table, choice_table, drawn_table, sampled_table, part_table}
+use Rattle.tables.specs.Tables.{lent_rows, prepared_over}
+use Rattle.drawing.specs.Points.{Agrees}
+use Rattle.tables.specs.Tables.{face_table, face_name_table, disc_table, disc_name_table, side_table, center_table, choice_table}
+use Rattle.drawing.specs.Points.{drawn_table, sampled_table, part_table}
 use Rattle.tables.specs.declared.Arrays.{Arrays}
 
 -- the tables of m stand in the front of t, that of its parts with nothing behind it

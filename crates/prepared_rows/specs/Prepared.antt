@@ -1,5 +1,5 @@
 -- The rows of all pairs over a prepared description. Definitions only.
-use Rattle.std.specs.Prelude.{ℕ, ◌+◌, ◌*◌, Bool, ◌&&◌, ◌||◌, not, List, map, leb, ltb, eqb, length, Float}
+use Rattle.std.specs.Prelude.{ℕ, ◌+◌, ◌*◌, ◌≤◌, Bool, ◌&&◌, ◌||◌, not, List, map, leb, ltb, eqb, length, Float}
 use Rattle.laws.specs.Lists.{list_in, flat}
 use Rattle.laws.specs.Loops.{any_in}
 use Rattle.bodies.specs.Check.{Checked, and_then, refused_if, bodies_stand}
@@ -9,10 +9,11 @@ use Rattle.bodies.specs.declared.pose.Pose.{Pose}
 use Rattle.mechanism.specs.Description.{sum_in}
 use Rattle.mechanism.specs.Rows.{RowLists, place_row, value_row}
 use Rattle.mechanism.specs.declared.rows.Row.{Row}
-use Rattle.strips.specs.Strips.{TableRows, side_at, row_a, row_b, pair_in}
+use Rattle.strips.specs.Strips.{TableRows, table_rows, side_at, row_a, row_b, pair_in}
 use Rattle.candidates.specs.Prepared.{bound_in, candidates_from}
-use Rattle.pair_rows.specs.PairRows.{candidate_at, shown_of, row_of}
+use Rattle.pair_rows.specs.PairRows.{candidate_at, shown_of, row_of, Put, Room}
 use Rattle.shown_rows.specs.Rows.{grad_of, slip_of}
+use Rattle.prepared_rows.specs.declared.Asked.{Asked}
 
 unfoldable pub rows_from : TableRows → Pose → Float → ℕ → List Row
 rows_from t q margin i = let cs = candidates_from t q i in map (λ k. row_of i (candidate_at cs k)) (shown_of cs margin)
@@ -68,3 +69,28 @@ prepared_checked b n t q places values grad slip =
 -- the refusals of a call that was lent these
 abbrev pub prepared_asked : Bodies → ℕ → TableRows → Pose → RowLists → Checked
 prepared_asked b n t q l = prepared_checked b n t q (length l.places) (length l.values) (length l.grad) (length l.slip)
+
+-- ---- what the code asks of lent arrays and leaves in them
+-- the row bound of a pair
+abbrev pub bound_of : Asked → ℕ → ℕ
+bound_of k i = bound_in (table_rows k.tables.now) i
+
+-- room for its rows behind the `at` rows that are there
+abbrev pub PairRoom : Asked → ℕ → ℕ → RowLists → Type 0
+PairRoom k i at l = (k.bodies.now.coords ≤ 16) × (at ≤ 23296) × Room k.bodies.now.coords at (bound_of k i) l
+
+-- they stand there, up to row r
+abbrev pub PutPair : Asked → ℕ → (at r : ℕ) → (before after : RowLists) → Type 0
+PutPair k i at r before after =
+    let t = table_rows k.tables.now in
+    let b = k.bodies.now in
+    let rows = rows_from t k.q k.margin i in
+    Put b.coords (map place_row rows) (map value_row rows) (grads_from t b k.q k.margin i) (slips_from t b k.q k.margin i) at r before after
+
+-- those of the first n pairs stand in front, up to row r
+abbrev pub PutPairs : Asked → ℕ → (r : ℕ) → (before after : RowLists) → Type 0
+PutPairs k n r before after =
+    let t = table_rows k.tables.now in
+    let b = k.bodies.now in
+    let rows = all_rows t k.q k.margin n in
+    Put b.coords (map place_row rows) (map value_row rows) (all_grads t b k.q k.margin n) (all_slips t b k.q k.margin n) 0 r before after

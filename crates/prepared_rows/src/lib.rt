@@ -1,14 +1,13 @@
 // The rows of all pairs over a prepared description.
 #![tactic(auto)]
 
-ghost use Rattle.std.specs.Prelude.{◌≡◌, map, ◌≤◌, length};
+ghost use Rattle.std.specs.Prelude.{◌≡◌, ◌≤◌, length};
 ghost use Rattle.laws.specs.Loops.{any_in};
-ghost use Rattle.mechanism.specs.Rows.{place_row, value_row, lists_of};
+ghost use Rattle.mechanism.specs.Rows.{lists_of};
 ghost use Rattle.strips.specs.Strips.{table_rows};
-ghost use Rattle.candidates.specs.Prepared.{bound_in};
-ghost use Rattle.pair_rows.specs.PairRows.{Put, Room};
+ghost use Rattle.pair_rows.specs.PairRows.{Room};
 ghost use Rattle.shown_rows.specs.Rows.{answer_if, rows_over};
-ghost use Rattle.prepared_rows.specs.Prepared.{rows_from, grads_from, slips_from, all_rows, all_grads, all_slips, bounds_in, falls_off, prepared_asked, prepared_lists};
+ghost use Rattle.prepared_rows.specs.Prepared.{all_rows, bounds_in, falls_off, prepared_asked, prepared_lists, bound_of, PairRoom, PutPair, PutPairs};
 
 use bodies::check::bodies_stand;
 use bodies::pose::Pose;
@@ -16,9 +15,18 @@ use bodies::{Bodies, Problem};
 use candidates::prepared::{pair_bound_in, pair_candidates_in};
 use mechanism::rows::LentRows;
 use pair_rows::{Source, put_shown};
-use proximities::{Candidate, no_candidate};
+use proximities::{Candidate, blank_candidate};
 use strips::tables::Tables;
 use strips::{row_a, row_b};
+
+// What rows are asked of: bodies and a prepared description, at a pose, up to a margin.
+#[derive(Clone, Copy)]
+struct Asked<'a> {
+    bodies: &'a Bodies,
+    tables: &'a Tables<'a>,
+    q: Pose,
+    margin: f64,
+}
 
 // ---- the rows of a pair
 
@@ -27,91 +35,64 @@ fn put_pair_by(
     candidates: &mut [Candidate],
     rows: &mut LentRows,
     at: usize,
-    bodies: Bodies,
-    t: &Tables,
-    q: Pose,
-    margin: f64,
+    asked: &Asked,
     i: usize,
 ) -> usize
-    requires { (bodies.coords ≤ 16) × (at ≤ 23296)
-        × (bound_in (table_rows t.now) i ≤ 1456) × (bound_in (table_rows t.now) i ≤ length candidates.old)
-        × Room bodies.coords at (bound_in (table_rows t.now) i) (lists_of rows.old) }
-    ensures { Put bodies.coords (map place_row (rows_from (table_rows t.now) q margin i)) (map value_row (rows_from (table_rows t.now) q margin i))
-        (grads_from (table_rows t.now) bodies q margin i) (slips_from (table_rows t.now) bodies q margin i)
-        at result (lists_of rows.old) (lists_of rows.new) }
+    requires { (bound_of asked.now i ≤ 1456) × (bound_of asked.now i ≤ length candidates.old) × PairRoom asked.now i at (lists_of rows.old) }
+    ensures { PutPair asked.now i at result (lists_of rows.old) (lists_of rows.new) }
 {
     let s = Source {
         pair: i,
-        a: t.facts(row_a(i)).body,
-        b: t.facts(row_b(i)).body,
+        a: asked.tables.facts(row_a(i)).body,
+        b: asked.tables.facts(row_b(i)).body,
     };
-    let n = pair_candidates_in(candidates, t, q, i);
-    put_shown(rows, at, s, &candidates[..n], margin, bodies, q)
+    let n = pair_candidates_in(candidates, asked.tables, asked.q, i);
+    put_shown(
+        rows,
+        at,
+        s,
+        &candidates[..n],
+        asked.margin,
+        *asked.bodies,
+        asked.q,
+    )
 }
 
 // The same with room for N candidates of its own.
-fn put_pair_with<const N: usize>(
-    rows: &mut LentRows,
-    at: usize,
-    bodies: Bodies,
-    t: &Tables,
-    q: Pose,
-    margin: f64,
-    i: usize,
-) -> usize
-    requires { (bound_in (table_rows t.now) i ≤ N) × (N ≤ 1456) × (bodies.coords ≤ 16) × (at ≤ 23296) × Room bodies.coords at (bound_in (table_rows t.now) i) (lists_of rows.old) }
-    ensures { Put bodies.coords (map place_row (rows_from (table_rows t.now) q margin i)) (map value_row (rows_from (table_rows t.now) q margin i))
-        (grads_from (table_rows t.now) bodies q margin i) (slips_from (table_rows t.now) bodies q margin i)
-        at result (lists_of rows.old) (lists_of rows.new) }
+fn put_pair_with<const N: usize>(rows: &mut LentRows, at: usize, asked: &Asked, i: usize) -> usize
+    requires { (bound_of asked.now i ≤ N) × (N ≤ 1456) × PairRoom asked.now i at (lists_of rows.old) }
+    ensures { PutPair asked.now i at result (lists_of rows.old) (lists_of rows.new) }
 {
-    let mut candidates = [no_candidate(); N];
-    put_pair_by(&mut candidates, rows, at, bodies, t, q, margin, i)
+    let mut candidates = [blank_candidate(); N];
+    put_pair_by(&mut candidates, rows, at, asked, i)
 }
 
 // With as much room as the pair's bound asks for. Each room is a call of its own: a function pays for all its arrays when it is entered.
-fn put_pair(
-    rows: &mut LentRows,
-    at: usize,
-    bodies: Bodies,
-    t: &Tables,
-    q: Pose,
-    margin: f64,
-    i: usize,
-) -> usize
-    requires { (bodies.coords ≤ 16) × (at ≤ 23296) × Room bodies.coords at (bound_in (table_rows t.now) i) (lists_of rows.old) }
-    ensures { Put bodies.coords (map place_row (rows_from (table_rows t.now) q margin i)) (map value_row (rows_from (table_rows t.now) q margin i))
-        (grads_from (table_rows t.now) bodies q margin i) (slips_from (table_rows t.now) bodies q margin i)
-        at result (lists_of rows.old) (lists_of rows.new) }
+fn put_pair(rows: &mut LentRows, at: usize, asked: &Asked, i: usize) -> usize
+    requires { PairRoom asked.now i at (lists_of rows.old) }
+    ensures { PutPair asked.now i at result (lists_of rows.old) (lists_of rows.new) }
 {
-    let n = pair_bound_in(t, i);
+    let n = pair_bound_in(asked.tables, i);
     if n <= 32 {
-        return put_pair_with::<32>(rows, at, bodies, t, q, margin, i);
+        return put_pair_with::<32>(rows, at, asked, i);
     }
     if n <= 256 {
-        return put_pair_with::<256>(rows, at, bodies, t, q, margin, i);
+        return put_pair_with::<256>(rows, at, asked, i);
     }
-    put_pair_with::<1456>(rows, at, bodies, t, q, margin, i)
+    put_pair_with::<1456>(rows, at, asked, i)
 }
 
 // ---- all pairs
 
 // Writes the rows of the first n pairs.
-fn put_pairs(
-    rows: &mut LentRows,
-    bodies: Bodies,
-    t: &Tables,
-    n: usize,
-    q: Pose,
-    margin: f64,
-) -> usize
-    requires { (bodies.coords ≤ 16) × (n ≤ 16) × (bounds_in (table_rows t.now) n ≤ 23296) × Room bodies.coords 0 (bounds_in (table_rows t.now) n) (lists_of rows.old) }
-    ensures { Put bodies.coords (map place_row (all_rows (table_rows t.now) q margin n)) (map value_row (all_rows (table_rows t.now) q margin n))
-        (all_grads (table_rows t.now) bodies q margin n) (all_slips (table_rows t.now) bodies q margin n)
-        0 result (lists_of rows.old) (lists_of rows.new) }
+fn put_pairs(rows: &mut LentRows, asked: &Asked, n: usize) -> usize
+    requires { (asked.now.bodies.now.coords ≤ 16) × (n ≤ 16) × (bounds_in (table_rows asked.now.tables.now) n ≤ 23296)
+        × Room asked.now.bodies.now.coords 0 (bounds_in (table_rows asked.now.tables.now) n) (lists_of rows.old) }
+    ensures { PutPairs asked.now n result (lists_of rows.old) (lists_of rows.new) }
 {
     let mut at = 0;
     for pair in 0..n {
-        at = put_pair(rows, at, bodies, t, q, margin, pair);
+        at = put_pair(rows, at, asked, pair);
     }
     at
 }
@@ -170,7 +151,13 @@ pub fn rows_in(
     if ((bound <= rows.places.len()) & (bound <= rows.values.len()))
         & ((columns <= rows.grad.len()) & (columns <= rows.slip.len()))
     {
-        return Ok(put_pairs(rows, bodies, t, n, q, margin));
+        let asked = Asked {
+            bodies: &bodies,
+            tables: t,
+            q,
+            margin,
+        };
+        return Ok(put_pairs(rows, &asked, n));
     }
     Err(Problem::TooFewRows)
 }

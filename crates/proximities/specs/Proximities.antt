@@ -5,7 +5,7 @@ use Rattle.std.proofs.lemmas.List.Edits.{sets}
 use Rattle.std.specs.Float.{nan}
 use Rattle.std.specs.Float.Ieee.{le, neg}
 use Rattle.laws.specs.Lists.{flat}
-use Rattle.ieee.specs.Consts.{row_margin}
+use Rattle.ieee.specs.Consts.{row_margin, zero_f}
 use Rattle.ieee.specs.Operators.{◌⊖◌}
 use Rattle.geometry.specs.Geometry.{dir_of, vector_of}
 use Rattle.geometry.specs.Signed.{disc_on_face, disc_on_disc, center_on_face, reversed_of, on_a, on_b}
@@ -16,7 +16,7 @@ use Rattle.geometry.specs.declared.signed.Face.{Face}
 use Rattle.geometry.specs.declared.signed.Proximity.{Proximity}
 use Rattle.bodies.specs.Pose.{is_world, rotate_of, world_of}
 use Rattle.mechanism.specs.declared.features.Piece.{Piece}
-use Rattle.mechanism.specs.declared.features.Piece.TheVariants.{Center}
+use Rattle.mechanism.specs.declared.features.Piece.TheVariants.{Center, Segment}
 use Rattle.bodies.specs.declared.pose.Placement.{Placement}
 use Rattle.material.specs.Material.{Material, holds_of, depth_of}
 use Rattle.sides.specs.declared.PlacedDisc.{PlacedDisc}
@@ -92,6 +92,15 @@ no_candidate = record {
   b = Center 0;
   who = 0;
   near = record { gap = nan; normal = record { x = nan; y = nan }; point = record { x = nan; y = nan } };
+}
+
+-- what an array holds before candidates are written to it
+abbrev pub blank_candidate : Candidate
+blank_candidate = record {
+  a = Segment 0 0;
+  b = Segment 0 0;
+  who = 0;
+  near = record { gap = zero_f; normal = record { x = zero_f; y = zero_f }; point = record { x = zero_f; y = zero_f } };
 }
 
 -- the candidates l stand in the array from `at` up to r, and everything else in it is as before

@@ -4,7 +4,7 @@
 ghost use Rattle.std.specs.Prelude.{◌≡◌, ◌+◌, ◌<◌, length};
 ghost use Rattle.geometry.specs.Signed.{disc_on_face, center_on_face, on_a, on_b};
 ghost use Rattle.material.specs.Material.{drawn_material};
-ghost use Rattle.proximities.specs.Proximities.{turned_of, world_face, world_disc, is_deep, real_of, center_real, kept_if, exchanged, reading_at, found_deep, no_candidate, Written};
+ghost use Rattle.proximities.specs.Proximities.{turned_of, world_face, world_disc, is_deep, real_of, center_real, kept_if, exchanged, reading_at, found_deep, blank_candidate, Written};
 
 use bodies::pose::Placement;
 use geometry::signed::{Disc, Face, Proximity};
@@ -57,20 +57,19 @@ pub fn world_disc(place: Placement, d: Disc) -> Disc
 
 // ---- candidates in a lent array
 
-// A candidate for the places of an array that nothing was written to.
-#[tactic(auto, using(ieee::proofs::Values::zero_over_zero))]
-pub fn no_candidate() -> Candidate
-    ensures { result ≡ no_candidate }
+// What fills an array that candidates will be written to: zeros throughout, which are cheap to write.
+pub fn blank_candidate() -> Candidate
+    ensures { result ≡ blank_candidate }
 {
-    let nan = 0.0 / 0.0;
+    let blank = Piece::Segment { part: 0, seg: 0 };
     Candidate {
-        a: Piece::Center { part: 0 },
-        b: Piece::Center { part: 0 },
+        a: blank,
+        b: blank,
         who: 0,
         near: Proximity {
-            gap: nan,
-            normal: Dir { x: nan, y: nan },
-            point: Point { x: nan, y: nan },
+            gap: 0.0,
+            normal: Dir { x: 0.0, y: 0.0 },
+            point: Point { x: 0.0, y: 0.0 },
         },
     }
 }

@@ -18,7 +18,7 @@ use drawing::body_of_side;
 use mechanism::Mechanism;
 use mechanism::rows::{LentRows, Place, Row, Value};
 use pair_rows::{Source, put_shown};
-use proximities::no_candidate;
+use proximities::blank_candidate;
 use shown_rows::rows_checked;
 
 // The records of a pair: the first `count` of them.
@@ -46,7 +46,7 @@ fn put_pair(
         (grads_of_pair m q margin i) (slips_of_pair m q margin i) 0 result
         (lists_in places.old values.old grad.old slip.old) (lists_in places.new values.new grad.new slip.new) }
 {
-    let mut candidates = [no_candidate(); 784];
+    let mut candidates = [blank_candidate(); 784];
     let p = m.pairs.pair[i];
     let s = Source {
         pair: i,

@@ -18,7 +18,7 @@ use mechanism::pair::{ContactPair, PairGeometry};
 use mechanism::rows::LentRows;
 use mechanism::{Mechanism, Outlines, Parts};
 use pair_rows::{Source, put_shown};
-use proximities::no_candidate;
+use proximities::blank_candidate;
 use sides::SideFeatures;
 use sides::contacts::pair_features_at;
 
@@ -28,7 +28,7 @@ fn put_rows(rows: &mut LentRows, m: Mechanism, q: Pose, margin: f64) -> usize
     ensures { Put m.bodies.coords (map place_row (rows_of m q margin)) (map value_row (rows_of m q margin))
         (grads_of m q margin) (slips_of m q margin) 0 result (lists_of rows.old) (lists_of rows.new) }
 {
-    let mut candidates = [no_candidate(); 784];
+    let mut candidates = [blank_candidate(); 784];
     let mut at = 0;
     for i in 0..m.pairs.count {
         let p = m.pairs.pair[i];

@@ -48,7 +48,8 @@ fn pair_features(ps: Parts, o: Outlines, p: ContactPair) -> PairFeatures
     }
 }
 
-fn no_side() -> SideFeatures
+// A side without features.
+pub fn no_side() -> SideFeatures
     ensures { result ≡ side_from 0 [] [] (Piece.Center 0) no_point }
 {
     let f = no_features();

@@ -36,10 +36,11 @@ use Rattle.strips.specs.Strips.{TableRows, at_most, facts_from, face_from, disc_
 use Rattle.strips.specs.Strips.{disc_row, piece_row, side_at, side_in, pair_in, row_a, row_b, row_of_material, row_of_sampled}
 use Rattle.strips.specs.declared.SideFacts.{SideFacts}
 use Rattle.strips.proofs.Rows.{piece_back}
-use Rattle.tables.specs.Tables.{up_to, Agrees, face_rows, face_names, disc_rows, disc_names, geometry_of, less_cuts, side_row, sampled_row}
+use Rattle.tables.specs.Tables.{face_rows, face_names, disc_rows, disc_names, geometry_of, less_cuts, side_row, sampled_row}
+use Rattle.drawing.specs.Points.{up_to, Agrees}
 use Rattle.tables.specs.Tables.{pair_sides, pair_centers, pair_choices, face_table, face_name_table, disc_table, disc_name_table, side_table, center_table, choice_table}
 use Rattle.tables.proofs.Known.{faces_a, faces_b, discs_a, discs_b, rows_both}
-use Rattle.tables.proofs.Points.{at-most_is}
+use Rattle.drawing.proofs.ReadBack.{at-most_is}
 use Rattle.std.proofs.Common.{Ok}
 
 -- ---- a row of a table

@@ -7,22 +7,27 @@ use mathlib.Core.Path.{◌≡◌, refl, sym, ap, ap₂, subst₂, ◌∙◌}
 use mathlib.Core.Bool.{Bool, true, false, ◌&&◌, cond}
 use mir.Val.{bool_byte}
 use mathlib.Core.List.{List, [], ◌∷◌, ◌++◌, map}
+use lib.Ieee.{Float}
 use lib.ListN.{length, drop, get_or, set, length-map, drop_of_length-le}
 use lib.Seq.{sets, take_all}
 use Rattle.laws.specs.Fill.{Filling}
 use Rattle.laws.specs.Lists.{list_in, flat}
 use Rattle.laws.specs.Loops.{Writing}
+use Rattle.laws.proofs.Choice.{cond_no}
 use Rattle.laws.proofs.Fill.{fill_end, map-drop}
 use Rattle.laws.proofs.Lists.{list_turn, list_done}
 use Rattle.laws.proofs.Writing.{starts, appends, ends, sets-append}
+use Rattle.mechanism.specs.Check.{parts_over}
 use Rattle.mechanism.specs.Description.{part_at}
+use Rattle.mechanism.specs.declared.Outlines.{Outlines}
 use Rattle.mechanism.specs.declared.Parts.{Parts}
 use Rattle.mechanism.specs.declared.pair.Surface.{Surface}
 use Rattle.drawing.specs.Drawing.{is_own, is_sampled}
 use Rattle.drawing.proofs.Segments.{first-row, next_row}
 use Rattle.sides.specs.declared.SideFeatures.{SideFeatures}
 use Rattle.sides.specs.declared.contacts.PairFeatures.{PairFeatures}
-use Rattle.tables.specs.Tables.{up_to}
+use Rattle.drawing.specs.Points.{up_to, drawn_table, sampled_table, part_table}
+use Rattle.tables.specs.Tables.{with_parts}
 use Rattle.tables.specs.declared.Arrays.{Arrays}
 
 -- ---- The rows of an array of n elements, written from `at` on: those of the first i are there.
@@ -143,3 +148,13 @@ same_arrays {a} {b} p₁ p₂ p₃ p₄ p₅ p₆ p₇ p₈ p₉ p₀ =
       choices = b.choices;
     } = cc in
     e
+
+-- ---- the tables of points and parts are written where no limit is passed
+pub points-put : (a : Arrays) (ps : Parts) (o : Outlines) {d s : List (List Float)} {p : List (List ℕ)} → parts_over ps ≡ false
+    → d ≡ cond (parts_over ps) a.drawn (sets a.drawn 0 (drawn_table ps o))
+    → s ≡ cond (parts_over ps) a.sampled (sets a.sampled 0 (sampled_table ps o))
+    → p ≡ cond (parts_over ps) a.parts (sets a.parts 0 (part_table ps o))
+    → record a { drawn = d; sampled = s; parts = p } ≡ with_parts a ps o
+points-put a ps o {p = p} few e f g =
+    ap₂ (λ (x y : List (List Float)). record a { drawn = x; sampled = y; parts = p }) (e ∙ cond_no _ _ few) (f ∙ cond_no _ _ few)
+    ∙ ap (λ (x : List (List ℕ)). record a { drawn = sets a.drawn 0 (drawn_table ps o); sampled = sets a.sampled 0 (sampled_table ps o); parts = x }) (g ∙ cond_no _ _ few)

@@ -1,9 +1,8 @@
 -- A description prepared for its readings: the rows of its tables. Definitions only.
-use Rattle.std.specs.Prelude.{ℕ, ◌+◌, ◌*◌, ◌<◌, ◌≡◌, Bool, true, false, cond, List, [], ◌∷◌, ◌++◌, map, length, get_or, replicate, take, Float, Ok, Err}
+use Rattle.std.specs.Prelude.{ℕ, ◌+◌, ◌*◌, Bool, true, false, cond, List, [], ◌∷◌, ◌++◌, map, replicate, take, Float, Ok, Err}
 use Rattle.std.proofs.lemmas.List.Edits.{sets}
 use Rattle.laws.specs.Lists.{list_in, flat}
 use Rattle.ieee.specs.Consts.{zero_f}
-use Rattle.geometry.specs.declared.Point.{Point}
 use Rattle.mechanism.specs.Description.{part_at, pair_at}
 use Rattle.mechanism.specs.declared.Mechanism.{Mechanism}
 use Rattle.mechanism.specs.declared.Outlines.{Outlines}
@@ -13,49 +12,14 @@ use Rattle.mechanism.specs.declared.pair.PairGeometry.{PairGeometry}
 use Rattle.mechanism.specs.declared.pair.PairGeometry.TheVariants.{Features, CenterBearing}
 use Rattle.mechanism.specs.declared.pair.Surface.{Surface}
 use Rattle.mechanism.specs.Piece.{part_of}
-use Rattle.silhouette.specs.Silhouette.{silhouette_at}
-use Rattle.drawing.specs.Drawing.{is_sampled, is_own, drawn_points, row_of, side_chosen}
-use Rattle.drawing.specs.Samples.{mouths_of, samples_of}
+use Rattle.drawing.specs.Drawing.{is_sampled, is_own, row_of, side_chosen}
+use Rattle.drawing.specs.Points.{up_to, drawn_table, sampled_table, part_table}
 use Rattle.sides.specs.Contacts.{pair_features}
 use Rattle.sides.specs.declared.SideFeatures.{SideFeatures}
 use Rattle.sides.specs.declared.contacts.PairFeatures.{PairFeatures}
 use Rattle.strips.specs.Strips.{TableRows, face_row, disc_row, piece_row}
 use Rattle.tables.specs.declared.Arrays.{Arrays}
-use Rattle.tables.specs.declared.Next.{Next}
 use Rattle.bodies.specs.Check.{Checked}
-
-abbrev pub up_to : ℕ → List ℕ
-up_to n = list_in (λ i. i) n 0
-
--- the rows of t stand in the front of l
-abbrev pub Agrees : {A : Type 0} → List (List A) → List (List A) → Type 0
-Agrees l t = (i : ℕ) → i < length t → get_or l i [] ≡ get_or t i []
-
--- ---- points: a part's silhouette as it is drawn, and the points sampled along it, both in its body's frame; only a solid or a lining in the section is sampled
-unfoldable pub drawn_of : Parts → Outlines → ℕ → List Point
-drawn_of ps o i = flat drawn_points (silhouette_at ps o i)
-
-unfoldable pub sampled_of : Parts → Outlines → ℕ → List Point
-sampled_of ps o i = cond (is_sampled (part_at ps i)) (flat (samples_of (mouths_of ps o)) (silhouette_at ps o i)) []
-
--- those of the first n parts
-abbrev pub drawn_up_to : Parts → Outlines → ℕ → List Point
-drawn_up_to ps o n = flat (drawn_of ps o) (up_to n)
-
-abbrev pub sampled_up_to : Parts → Outlines → ℕ → List Point
-sampled_up_to ps o n = flat (sampled_of ps o) (up_to n)
-
-abbrev pub part_row : Parts → Outlines → ℕ → List ℕ
-part_row ps o i = (part_at ps i).body ∷ length (drawn_up_to ps o i) ∷ length (drawn_of ps o i) ∷ length (sampled_up_to ps o i) ∷ length (sampled_of ps o i) ∷ []
-
-abbrev pub drawn_table : Parts → Outlines → List (List Float)
-drawn_table ps o = map row_of (drawn_up_to ps o ps.count)
-
-abbrev pub sampled_table : Parts → Outlines → List (List Float)
-sampled_table ps o = map row_of (sampled_up_to ps o ps.count)
-
-abbrev pub part_table : Parts → Outlines → List (List ℕ)
-part_table ps o = list_in (part_row ps o) ps.count 0
 
 -- ---- features: twelve faces and twenty-eight discs a side, the blank ones behind them too
 abbrev pub face_rows : SideFeatures → List (List Float)
@@ -164,13 +128,6 @@ lent_rows a n = record {
   drawn = a.drawn;
   sampled = a.sampled;
   parts = take n a.parts;
-}
-
--- with the points of one part behind those before it
-abbrev pub with_points : Arrays → Next → List Point → List Point → Arrays
-with_points a at drawn sampled = record a {
-  drawn = sets a.drawn at.drawn (map row_of drawn);
-  sampled = sets a.sampled at.sampled (map row_of sampled);
 }
 
 -- with the tables of points and parts

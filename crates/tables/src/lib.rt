@@ -1,44 +1,24 @@
 // Prepares a description for its readings: writes the rows of its tables.
 #![tactic(auto)]
 
-ghost use Rattle.std.specs.Prelude.{◌≡◌, true, map, ◌+◌, ◌*◌, ◌<◌, ◌≤◌, length};
+ghost use Rattle.std.specs.Prelude.{◌≡◌, true, ◌+◌, ◌*◌, ◌<◌, ◌≤◌, length};
 ghost use Rattle.std.proofs.lemmas.List.Edits.{sets};
-ghost use Rattle.laws.specs.Lists.{list_in, flat};
 ghost use Rattle.strips.specs.Strips.{table_rows};
-ghost use Rattle.mechanism.specs.Check.{check_of, pair_drawn, FewParts};
-ghost use Rattle.mechanism.specs.Description.{start_of_part};
-ghost use Rattle.mechanism.specs.Segments.{outlines_in};
-ghost use Rattle.silhouette.specs.Silhouette.{silhouette_from, silhouette_count};
-ghost use Rattle.drawing.specs.Drawing.{drawn_points, row_of};
-ghost use Rattle.drawing.specs.Samples.{on_line, sample_points, samples_of, mouths_of, mouths_in};
-ghost use Rattle.tables.specs.Tables.{drawn_of, sampled_of, drawn_up_to, sampled_up_to, face_rows, face_names, disc_rows, disc_names, geometry_of, side_row, sampled_row, less_cuts, pair_choices};
-ghost use Rattle.tables.specs.Tables.{blank_arrays, lent_rows, with_points, with_parts, with_features, with_sides, with_pair, with_pairs, prepared_over};
+ghost use Rattle.mechanism.specs.Check.{check_of, pair_drawn};
+ghost use Rattle.drawing.specs.Drawing.{row_of};
+ghost use Rattle.tables.specs.Tables.{face_rows, face_names, disc_rows, disc_names, geometry_of, side_row, sampled_row, less_cuts, pair_choices};
+ghost use Rattle.tables.specs.Tables.{blank_arrays, lent_rows, with_features, with_sides, with_pair, with_pairs, prepared_over};
 
 use bodies::Problem;
-use drawing::samples::{Mouth, draw_mouths, is_mouth, on_line};
+use drawing::points::{DrawnRows, PartRows, SampledRows, put_all_points};
 use drawing::{is_own, is_sampled, side_chosen};
-use geometry::{Point, Seg};
-use mechanism::check::{check, segs_counted};
+use mechanism::check::check;
 use mechanism::pair::{ContactPair, PairGeometry, Surface};
-use mechanism::part::Part;
-use mechanism::segments::{SegRow, put_segs};
 use mechanism::{Mechanism, Outlines, Parts};
 use sides::SideFeatures;
 use sides::contacts::{PairFeatures, pair_features_at};
-use silhouette::rows::{silhouette_count, silhouette_seg};
 use strips::tables::Tables;
-use strips::{
-    ChoiceRow, DiscRow, FaceRow, PartRow, PieceRow, PointRow, SideRow, disc_row, face_row,
-};
-
-// The drawn points of all parts.
-pub type DrawnRows = [PointRow; 6144];
-
-// The sampled points of all parts.
-pub type SampledRows = [PointRow; 13056];
-
-// The parts.
-pub type PartRows = [PartRow; 32];
+use strips::{ChoiceRow, DiscRow, FaceRow, PieceRow, PointRow, SideRow, disc_row, face_row};
 
 // The faces of all sides.
 pub type FaceRows = [FaceRow; 384];
@@ -112,157 +92,6 @@ impl Arrays {
             sampled: &self.sampled,
             parts: &self.parts[..parts.min(32)],
         }
-    }
-}
-
-// ---- points
-
-// Writes the points of a segment as it is drawn, from `at` on.
-fn put_drawn_seg(out: &mut [PointRow], at: usize, s: Seg) -> usize
-    requires { at + 8 ≤ length out.old }
-    ensures { (result ≡ at + length (drawn_points s)) × (out.new ≡ sets out.old at (map row_of (drawn_points s))) }
-{
-    let d = s.drawn();
-    for k in 0..d.count {
-        let p = d.points[k];
-        out[at + k] = [p.x, p.y];
-    }
-    at + d.count
-}
-
-// Writes the silhouette of a part whose outline starts in row `first` as it is drawn, from `at` on.
-fn put_drawn(out: &mut [PointRow], at: usize, segs: &[SegRow], first: usize, p: Part) -> usize
-    requires { (p.segs ≤ 48) × (first + p.segs ≤ length segs.now) × (at + 8 * silhouette_count p ≤ length out.old) }
-    ensures { let ps = flat drawn_points (silhouette_from (outlines_in segs.now) first p) in (result ≡ at + length ps) × (out.new ≡ sets out.old at (map row_of ps)) }
-{
-    let mut to = at;
-    for i in 0..silhouette_count(p) {
-        to = put_drawn_seg(out, to, silhouette_seg(segs, first, p, i));
-    }
-    to
-}
-
-// Writes seventeen points along the line from a to b, from `at` on.
-fn put_line(out: &mut [PointRow], at: usize, a: Point, b: Point) -> usize
-    requires { at + 17 ≤ length out.old }
-    ensures { (result ≡ at + 17) × (out.new ≡ sets out.old at (map row_of (list_in (on_line a b) 17 0))) }
-{
-    for k in 0..17 {
-        let p = on_line(a, b, k as u32);
-        out[at + k] = [p.x, p.y];
-    }
-    at + 17
-}
-
-fn put_points(out: &mut [PointRow], at: usize, s: Seg) -> usize
-    requires { at + 17 ≤ length out.old }
-    ensures { (result ≡ at + length (sample_points s)) × (out.new ≡ sets out.old at (map row_of (sample_points s))) }
-{
-    match s {
-        Seg::Line { a, b } => put_line(out, at, a, b),
-        Seg::Arc { .. } => put_drawn_seg(out, at, s),
-    }
-}
-
-// Writes the samples of a segment, none where it is a mouth.
-fn put_sampled_seg(out: &mut [PointRow], at: usize, s: Seg, mouths: &[Mouth]) -> usize
-    requires { at + 17 ≤ length out.old }
-    ensures { (result ≡ at + length (samples_of (mouths_in mouths.now) s)) × (out.new ≡ sets out.old at (map row_of (samples_of (mouths_in mouths.now) s))) }
-{
-    if is_mouth(mouths, s.start(), s.end()) {
-        return at;
-    }
-    put_points(out, at, s)
-}
-
-// Writes the samples of the silhouette of a part whose outline starts in row `first`, from `at` on.
-fn put_sampled(
-    out: &mut [PointRow],
-    at: usize,
-    segs: &[SegRow],
-    first: usize,
-    p: Part,
-    mouths: &[Mouth],
-) -> usize
-    requires { (p.segs ≤ 48) × (first + p.segs ≤ length segs.now) × (at + 17 * silhouette_count p ≤ length out.old) }
-    ensures { let ps = flat (samples_of (mouths_in mouths.now)) (silhouette_from (outlines_in segs.now) first p) in (result ≡ at + length ps) × (out.new ≡ sets out.old at (map row_of ps)) }
-{
-    let mut to = at;
-    for i in 0..silhouette_count(p) {
-        to = put_sampled_seg(out, to, silhouette_seg(segs, first, p, i), mouths);
-    }
-    to
-}
-
-// Where the next part's points go.
-#[derive(Clone, Copy)]
-struct Next {
-    drawn: usize,
-    sampled: usize,
-}
-
-impl Arrays {
-    // Writes the points of part i, whose outline starts in row `first`, behind those of the parts before it.
-    fn put_part_points(
-        &mut self,
-        ps: Parts,
-        segs: &[SegRow],
-        mouths: &[Mouth],
-        i: usize,
-        first: usize,
-        at: Next,
-    ) -> Next
-        requires room { FewParts ps × (i < ps.count) × (first ≡ start_of_part ps i) × (start_of_part ps ps.count ≤ length segs.now) }
-        requires mouths { mouths_in mouths.now ≡ mouths_of ps (outlines_in segs.now) }
-        requires places { (at.drawn ≡ length (drawn_up_to ps (outlines_in segs.now) i)) × (at.sampled ≡ length (sampled_up_to ps (outlines_in segs.now) i)) }
-        ensures next { (result.drawn ≡ at.drawn + length (drawn_of ps (outlines_in segs.now) i)) × (result.sampled ≡ at.sampled + length (sampled_of ps (outlines_in segs.now) i)) }
-        ensures after { self.new ≡ with_points self.old at (drawn_of ps (outlines_in segs.now) i) (sampled_of ps (outlines_in segs.now) i) }
-    {
-        let p = ps.part[i];
-        let drawn = put_drawn(&mut self.drawn, at.drawn, segs, first, p);
-        let sampled = if is_sampled(p) {
-            put_sampled(&mut self.sampled, at.sampled, segs, first, p, mouths)
-        } else {
-            at.sampled
-        };
-        Next { drawn, sampled }
-    }
-
-    // Writes the points of all parts, and a row for each part.
-    fn put_parts(&mut self, ps: Parts, segs: &[SegRow], mouths: &[Mouth])
-        requires { FewParts ps × (start_of_part ps ps.count ≤ length segs.now) × (mouths_in mouths.now ≡ mouths_of ps (outlines_in segs.now)) }
-        ensures { self.new ≡ with_parts self.old ps (outlines_in segs.now) }
-    {
-        let mut first: usize = 0;
-        let mut at = Next {
-            drawn: 0,
-            sampled: 0,
-        };
-        for i in 0..ps.count {
-            let p = ps.part[i];
-            let to = self.put_part_points(ps, segs, mouths, i, first, at);
-            self.parts[i] = [
-                p.body,
-                at.drawn,
-                to.drawn - at.drawn,
-                at.sampled,
-                to.sampled - at.sampled,
-            ];
-            at = to;
-            first += p.segs;
-        }
-    }
-
-    // The same of outlines as a value, with the mouths of all cuts.
-    fn put_all_parts(&mut self, ps: Parts, o: Outlines)
-        requires { FewParts ps }
-        ensures { self.new ≡ with_parts self.old ps o }
-    {
-        let mut segs = [[0.0; 8]; 384];
-        let mut mouths = [[0.0; 4]; 768];
-        put_segs(&mut segs, o, segs_counted(ps));
-        let n = draw_mouths(&mut mouths, ps, &segs);
-        self.put_parts(ps, &segs, &mouths[..n]);
     }
 }
 
@@ -424,7 +253,13 @@ impl Arrays {
         ensures after { self.new ≡ prepared_over (check_of m) self.old m }
     {
         check(m)?;
-        self.put_all_parts(m.parts, m.outlines);
+        put_all_points(
+            &mut self.drawn,
+            &mut self.sampled,
+            &mut self.parts,
+            m.parts,
+            m.outlines,
+        );
         self.put_pairs(m);
         Ok(())
     }

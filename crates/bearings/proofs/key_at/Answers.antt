@@ -12,8 +12,8 @@ pub returns : goal.returns
 unfolding key_at
 returns g c =
     let s = c.args in
-    let a = g.S.Side.features s.a.now in
-    let score = reach_of s.place s.corner s.toward in
+    let a = g.S.Side.features s.a.now.side.now in
+    let score = reach_of s.a.now.place s.corner s.toward in
     let p = c.put_ends-n.ensures in
     let e = p.0 in
     let h = p.1 in

@@ -13,8 +13,8 @@ pub returns : goal.returns
 unfolding stop_at
 returns g c =
     let s = c.args in
-    let b = g.S.Side.features s.b.now in
-    let score = facing_of s.place (vector_of s.r.normal) in
+    let b = g.S.Side.features s.b.now.side.now in
+    let score = facing_of s.b.now.place (vector_of s.r.normal) in
     let p = c.put_ends-n.ensures in
     let e = p.0 in
     let h = p.1 in

@@ -8,5 +8,4 @@ use Rattle.candidates.proofs.center_candidates.Goals as goal
 pub returns : goal.returns
 returns g c =
     let s = c.args in
-    let m = g.D.Drawing.material s.from.now s.q in
-    wrote_same (flat-center_same no_material (m s.ca) s.c.piece s.c.point (faces_in s.a.now) (sym c.center_deep.ensures ∙ c.if-center_deep.false)) c.plain_center.ensures
+    wrote_same (flat-center_same no_material (g.D.Drawing.material_a s.from.now) s.c.piece s.c.point (faces_in s.a.now) (sym c.center_deep.ensures ∙ c.if-center_deep.false)) c.plain_center.ensures

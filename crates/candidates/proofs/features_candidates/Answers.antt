@@ -6,8 +6,7 @@ use Rattle.candidates.proofs.features_candidates.Goals as goal
 
 pub returns : goal.returns
 returns g c =
-    let s = c.args in
-    let m = g.D.Drawing.material s.from.now s.q in
+    let from = c.args.from.now in
     let ab = sym c.any_deep.ensures ∙ c.if-any_deep.false in
     let ba = sym c.any_deep-else-any_deep.ensures ∙ c.if-any_deep-2.false in
-    wrote_same (placed_same no_material (m s.ca) no_material (m s.cb) s.a.now s.b.now ab ba) c.plain_features.ensures
+    wrote_same (placed_same no_material (g.D.Drawing.material_a from) no_material (g.D.Drawing.material_b from) c.args.s.now ab ba) c.plain_features.ensures

@@ -14,9 +14,9 @@ returns-clause-placed g c =
     let p = c.placement_at-place.result in
     let n = c.faces-faces.ensures in
     let m = c.discs-discs.ensures in
-    let a = c.first_of.ensures (λ i. place_face p (get_or (faces_in s) i no_face)) (λ i x h k. search rules) in
-    let b = c.first_of-2.ensures (λ i. place_disc p (get_or (discs_in s) i no_disc)) (λ i x h k. search rules) in
+    let a = c.put_front.ensures (λ i. place_face p (get_or (faces_in s) i no_face)) (λ i x h k. search rules) in
+    let b = c.put_front-2.ensures (λ i. place_disc p (get_or (discs_in s) i no_disc)) (λ i x h k. search rules) in
     let e = c.placement_at-place.ensures ∙ ap (placement_at c.args.q) c.body.ensures in (
-      placed-taken (place_face p) (faces_in s) no_face _ 12 n.0 n.1 a ∙ ap (λ z. map (place_face z) (faces_in s)) e,
-      placed-taken (place_disc p) (discs_in s) no_disc _ 28 m.0 m.1 b ∙ ap (λ z. map (place_disc z) (discs_in s)) e,
+      placed-taken (place_face p) (faces_in s) no_face _ n.0 (search rules) a ∙ ap (λ z. map (place_face z) (faces_in s)) e,
+      placed-taken (place_disc p) (discs_in s) no_disc _ m.0 (search rules) b ∙ ap (λ z. map (place_disc z) (discs_in s)) e,
     )

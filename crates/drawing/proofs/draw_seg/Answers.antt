@@ -1,46 +1,17 @@
 use native.Mathlib.Omega.{arith}
 use mathlib.Core.Path.{refl}
-use Rattle.bodies.specs.Pose.{world_of}
-use Rattle.drawing.proofs.Segments.{drawn-held, drawn-counted, rows-turn, first-row, next_row, drawn-end}
+use Rattle.drawing.proofs.Segments.{drawn_known, rows-turn, first-row, next_row, drawn-end}
 use Rattle.drawing.proofs.draw_seg.Goals as goal
 
 pub loop-k-init : goal.loop-k-init
-loop-k-init c = first-row refl
-
-pub offset_bounds-d-k : goal.offset_bounds-d-k
-offset_bounds-d-k c = let h = (drawn-held c.args.s c.drawn-d.ensures).0 in omega arith
-
-pub bounds-d-k : goal.bounds-d-k
-bounds-d-k c = let h = (drawn-held c.args.s c.drawn-d.ensures).0 in omega arith
-
-pub overflow_add-at : goal.overflow_add-at
-overflow_add-at c = let h = (drawn-held c.args.s c.drawn-d.ensures).0 in omega arith
-
-pub offset_bounds-points-at : goal.offset_bounds-points-at
-offset_bounds-points-at c =
-    let h = drawn-counted c.args.s c.drawn-d.ensures in
-    let w = c.loop-k.invariant.long in
-    omega arith
-
-pub bounds-points-at : goal.bounds-points-at
-bounds-points-at c =
-    let h = drawn-counted c.args.s c.drawn-d.ensures in
-    let w = c.loop-k.invariant.long in
-    omega arith
+loop-k-init f c = λ g h. first-row refl
 
 pub loop-k-preserved : goal.loop-k-preserved
-loop-k-preserved c =
-    let h = (drawn-held c.args.s c.drawn-d.ensures).0 in
-    let g = (drawn-held c.args.s c.drawn-d.ensures).1 in
+loop-k-preserved f c = λ g h.
     let d = c.drawn-d.result in
-    next_row _ c.loop-k.k (rows-turn (world_of c.args.place) d.points d.count c.loop-k.k _ _ (omega arith) (omega arith) c.world-p.ensures) c.loop-k.invariant
+    let few = (drawn_known d c.args.s c.drawn-d.ensures).1 in
+    let long = (drawn_known d c.args.s c.drawn-d.ensures).2 in
+    next_row _ c.loop-k.k (rows-turn g d.points d.count c.loop-k.k _ _ (omega (arith, few, long)) c.loop-k-test.true (h _ _ c.place-p.ensures)) (c.loop-k.invariant g h)
 
-pub overflow_add-result : goal.overflow_add-result
-overflow_add-result c = let h = (drawn-held c.args.s c.drawn-d.ensures).0 in omega arith
-
-pub shape_of-points : goal.shape_of-points
-shape_of-points c = c.loop-k.invariant.long
-
-pub returns : goal.returns
-returns c =
-    drawn-end (world_of c.args.place) c.args.s c.drawn-d.ensures (omega arith) (omega arith) c.loop-k.invariant
+pub returns-clause-written : goal.returns-clause-written
+returns-clause-written f c = λ g h. drawn-end g c.args.s c.drawn-d.ensures c.loop-k-test.false (c.loop-k.invariant g h)

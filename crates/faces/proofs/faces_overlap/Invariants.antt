@@ -8,6 +8,6 @@ use Rattle.faces.proofs.faces_overlap.Given as goal
 
 abbrev pub invariant-loop-i : goal.invariant-loop-i
 invariant-loop-i g l =
-    let step = step_of l.pa l.pb (faces_in (g.S.Side.features l.b)) in
-    let fs = placed_faces (g.S.Side.features l.a) in
+    let step = step_of l.a.place l.b.place (faces_in (g.S.Side.features l.b.side.now)) in
+    let fs = placed_faces (g.S.Side.features l.a.side.now) in
     foldl step l.deepest (left l.i fs) ≡ foldl step zero_f (left 0 fs)

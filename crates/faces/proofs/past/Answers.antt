@@ -8,10 +8,10 @@ use Rattle.faces.proofs.past.Goals as goal
 pub loop-i-preserved : goal.loop-i-preserved
 loop-i-preserved g c =
     let s = c.args in
-    let e = past-taken s.a0 s.a1 s.n s.place c.loop-i.d (face_of c.face.result) c.world.ensures c.world-in-loop-i.ensures c.over-d.ensures in
-    held_on (past_of s.a0 s.a1 s.n s.place) (faces_in (g.S.Side.features s.b.now)) c.loop-i.i c.faces-i-end.ensures.0 c.loop-i-test.true c.face.ensures e ∙ c.loop-i.invariant
+    let e = past-taken s.a0 s.a1 s.n s.b.now.place c.loop-i.d (face_of c.face.result) c.world.ensures c.world-in-loop-i.ensures c.over-d.ensures in
+    held_on (past_of s.a0 s.a1 s.n s.b.now.place) (faces_in (g.S.Side.features s.b.now.side.now)) c.loop-i.i c.faces-i-end.ensures.0 c.loop-i-test.true c.face.ensures e ∙ c.loop-i.invariant
 
 pub returns : goal.returns
 returns g c =
     let s = c.args in
-    sym (held-end (past_of s.a0 s.a1 s.n s.place) (faces_in (g.S.Side.features s.b.now)) c.loop-i.i c.faces-i-end.ensures.0 c.loop-i.d c.loop-i-test.false) ∙ c.loop-i.invariant
+    sym (held-end (past_of s.a0 s.a1 s.n s.b.now.place) (faces_in (g.S.Side.features s.b.now.side.now)) c.loop-i.i c.faces-i-end.ensures.0 c.loop-i.d c.loop-i-test.false) ∙ c.loop-i.invariant

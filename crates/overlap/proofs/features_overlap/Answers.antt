@@ -10,11 +10,11 @@ use Rattle.overlap.proofs.features_overlap.Goals as goal
 
 pub returns : goal.returns
 returns c =
-    let s = c in
-    let both = c.sunk_between-s.ensures in
+    let s = c.args.s.now in
+    let both = c.sunk_between-d.ensures in
     c.max-2.ensures
     ∙ ap₂ max_of
-    (c.max.ensures ∙ ap (max_of zero_f) (sunk_side s.args.ps.now (outlines_in s.args.segs.now) s.args.q s.requires.0 (owner_in s.args.ps.now s.args.a) s.args.b both.0
-    (c.owners_of.ensures (is_own s.args.a) (λ i r h k. search (rules, tests))) c.side_chosen-2.ensures))
-    (sunk_side s.args.ps.now (outlines_in s.args.segs.now) s.args.q s.requires.0 (owner_in s.args.ps.now s.args.b) s.args.a both.1
-    (c.owners_of-2.ensures (is_own s.args.b) (λ i r h k. search (rules, tests))) c.side_chosen.ensures)
+    (c.max.ensures ∙ ap (max_of zero_f) (sunk_side s.parts.now (outlines_in s.segs.now) s.q s.few (owner_in s.parts.now c.args.a) c.args.b both.0
+    (c.owners_of.ensures (is_own c.args.a) (λ i r h k. search (rules, tests))) c.side_chosen-2.ensures))
+    (sunk_side s.parts.now (outlines_in s.segs.now) s.q s.few (owner_in s.parts.now c.args.b) c.args.a both.1
+    (c.owners_of-2.ensures (is_own c.args.b) (λ i r h k. search (rules, tests))) c.side_chosen.ensures)

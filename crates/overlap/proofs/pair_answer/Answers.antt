@@ -16,6 +16,16 @@ pair_at-p-requires c =
     let called = c.then_called.ensures ∙ ap (λ (k : Checked). then_called k c.fits.result (ltb s.pair s.m.now.pairs.count) true) c.check_in.ensures in
     pair-there (described s.m.now.bodies s.m.now.parts s.segs.now s.m.now.pairs) s.q c.fits.ensures s.pair called c.in_ok-then_called.was
 
+pub invariant_of-s : goal.invariant_of-s
+invariant_of-s c =
+    let s = c.args in
+    let m = described s.m.now.bodies s.m.now.parts s.segs.now s.m.now.pairs in
+    let called = c.then_called.ensures ∙ ap (λ (k : Checked). then_called k c.fits.result (ltb s.pair s.m.now.pairs.count) true) c.check_in.ensures in
+    let few = pair-few m s.q c.fits.ensures s.pair called c.in_ok-then_called.was in
+    let k = counted-few s.m.now.parts few in
+    let x = c.requires.0 in
+    record { few = few; there = omega (arith, k, x) }
+
 pub overlap_of_drawn-requires : goal.overlap_of_drawn-requires
 overlap_of_drawn-requires c =
     let s = c.args in
@@ -23,10 +33,9 @@ overlap_of_drawn-requires c =
     let called = c.then_called.ensures ∙ ap (λ (k : Checked). then_called k c.fits.result (ltb s.pair s.m.now.pairs.count) true) c.check_in.ensures in
     let taken = c.in_ok-then_called.was in
     let k = counted-few s.m.now.parts (pair-few m s.q c.fits.ensures s.pair called taken) in
-    let x = c.requires.0 in
     let y = c.requires.1 in
     let z = c.requires.2 in
-    (pair-is-drawn m s.q c.fits.ensures s.pair called taken c.pair_at-p.ensures, omega (arith, k, x), omega (arith, k, y), omega (arith, k, z))
+    (pair-is-drawn m s.q c.fits.ensures s.pair called taken c.pair_at-p.ensures, omega (arith, k, y), omega (arith, k, z))
 
 pub returns-in_err-then_called : goal.returns-in_err-then_called
 returns-in_err-then_called c =

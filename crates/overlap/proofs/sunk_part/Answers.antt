@@ -39,7 +39,7 @@ loop-k-preserved c =
     let w = made.2 in
     let z = made.0 in
     let x = points_lent xs c.loop-k.samples (made.0 ∙ sym n) made.1 (let y = c.loop-k.invariant.long in omega (arith, n, w, y, z)) in
-    let m = drawn_material s.m.now in
+    let m = drawn_material s.m.now.material in
     record {
       long = written-long c.loop-k.samples (map row_of xs) made.1 c.loop-k.invariant.long;
       deep = segs_more m (world_of s.place) (samples_of (mouths_in s.mouths.now)) _ c.loop-k.d c.loop-k.k (omega (arith, e, t, k))
@@ -53,6 +53,6 @@ returns c =
     let e = c.silhouette_count-k-end.ensures.0 in
     let t = c.loop-k-test.false in
     let k = rows-count s.segs.now s.first s.p a.requires.0 a.requires.1 in
-    let m = drawn_material s.m.now in
+    let m = drawn_material s.m.now.material in
     sym (segs_end m (world_of s.place) (samples_of (mouths_in s.mouths.now)) (silhouette_from (outlines_in s.segs.now) s.first s.p) c.loop-k.d c.loop-k.k (omega (arith, e, t, k)))
     ∙ c.loop-k.invariant.deep

@@ -10,5 +10,5 @@ use Rattle.overlap.proofs.sunk_part.Given as goal
 
 abbrev pub invariant-loop-k : goal.invariant-loop-k
 invariant-loop-k l =
-    let squares = segs_from (drawn_material l.m) (world_of l.place) (samples_of (mouths_in l.mouths)) (silhouette_from (outlines_in l.segs) l.first l.p) in
+    let squares = segs_from (drawn_material l.m.material) (world_of l.place) (samples_of (mouths_in l.mouths)) (silhouette_from (outlines_in l.segs) l.first l.p) in
     record { long : length l.samples ≡ 17; deep : squares l.d l.k ≡ squares l.from 0 }

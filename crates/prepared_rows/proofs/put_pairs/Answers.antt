@@ -13,7 +13,7 @@ loop-pair-init c = pairs_start _ _ _ _ _ _ _
 
 pub put_pair-at-requires : goal.put_pair-at-requires
 put_pair-at-requires c =
-    let t = table_rows c.args.t.now in
+    let t = table_rows c.args.asked.now.tables.now in
     let h : c.loop-pair.pair < c.args.n = omega arith in
     let k = sum_more (bound_in t) c.loop-pair.pair in
     let m = sum_mono (bound_in t) (c.loop-pair.pair + 1) c.args.n (omega (arith, h)) in
@@ -23,10 +23,11 @@ put_pair-at-requires c =
 
 pub loop-pair-preserved : goal.loop-pair-preserved
 loop-pair-preserved c =
-    let a = c.args in
-    let t = table_rows a.t.now in
+    let k = c.args.asked.now in
+    let t = table_rows k.tables.now in
+    let b = k.bodies.now in
     let i = c.loop-pair.pair in
-    pairs-more c.loop-pair.invariant (omega arith) (rows_few t a.q i a.bodies a.margin) (grads-long t a.q i a.bodies a.margin) (slips-long t a.q i a.bodies a.margin) c.put_pair-at.ensures
+    pairs-more c.loop-pair.invariant (omega arith) (rows_few t k.q i b k.margin) (grads-long t k.q i b k.margin) (slips-long t k.q i b k.margin) c.put_pair-at.ensures
 
 pub returns : goal.returns
 returns c = pairs_end c.loop-pair.invariant (omega arith)

@@ -7,6 +7,8 @@ use Rattle.prepared_rows.proofs.put_pairs.Given as goal
 
 abbrev pub invariant-loop-pair : goal.invariant-loop-pair
 invariant-loop-pair l =
-    let t = table_rows l.t in
-    AllPairs (rows_from t l.q l.margin) (grads_from t l.bodies l.q l.margin) (slips_from t l.bodies l.q l.margin) (bound_in t) l.n l.bodies.coords
+    let k = l.asked in
+    let t = table_rows k.tables.now in
+    let b = k.bodies.now in
+    AllPairs (rows_from t k.q k.margin) (grads_from t b k.q k.margin) (slips_from t b k.q k.margin) (bound_in t) l.n b.coords
     (lists_of l.initial.rows) (lists_of l.rows) l.at l.pair

@@ -20,8 +20,8 @@ returns-then-facts-eq0 c =
     let ea = c.side-a.ensures.features ∙ ap (side_in t) c.row_a-i.ensures in
     let eb = c.side-b.ensures.features ∙ ap (side_in t) c.row_b-j.ensures in
     let f = c.facts.ensures.0 ∙ ap (side_at t) c.row_a-i.ensures in
-    let eca = c.choice_at-ca.ensures ∙ ap (choice_at t) (c.row_of_material.ensures ∙ ap row_of_material c.row_a-i.ensures) in
-    let ecb = c.choice_at-cb.ensures ∙ ap (choice_at t) (c.row_of_material-then-facts-eq0.ensures ∙ ap row_of_material c.row_b-j.ensures) in
+    let eca = c.choice_at.ensures ∙ ap (choice_at t) (c.row_of_material.ensures ∙ ap row_of_material c.row_a-i.ensures) in
+    let ecb = c.choice_at-2.ensures ∙ ap (choice_at t) (c.row_of_material-2.ensures ∙ ap row_of_material c.row_b-j.ensures) in
     wrote_same (features_from t c.args.pair ea eb c.args.q eca ecb (sym (ap (λ (s : SideFacts). s.geometry) f) ∙ c.if-facts-eq0.true)) c.of_features.ensures
 
 pub of_center-requires : goal.of_center-requires
@@ -37,5 +37,5 @@ returns c =
     let ea = c.side-a.ensures.features ∙ ap (side_in t) c.row_a-i.ensures in
     let eb = c.side-b.ensures.features ∙ ap (side_in t) c.row_b-j.ensures in
     let f = c.facts.ensures.0 ∙ ap (side_at t) c.row_a-i.ensures in
-    let eca = c.choice_at-ca.ensures ∙ ap (choice_at t) (c.row_of_material.ensures ∙ ap row_of_material c.row_a-i.ensures) in
+    let eca = c.choice_at.ensures ∙ ap (choice_at t) (c.row_of_material.ensures ∙ ap row_of_material c.row_a-i.ensures) in
     wrote_same (center_from t c.args.pair ea eb c.args.q eca (λ h. c.if-facts-eq0.false (ap (λ (s : SideFacts). s.geometry) f ∙ h))) c.of_center.ensures

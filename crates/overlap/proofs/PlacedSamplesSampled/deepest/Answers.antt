@@ -8,14 +8,14 @@ use Rattle.overlap.proofs.PlacedSamplesSampled.deepest.Goals as goal
 
 pub sunk_part-requires : goal.sunk_part-requires
 sunk_part-requires c =
-    let s = c.args.self.now in
-    let h = c.requires.0 in
+    let s = c.args.self.now.posed in
+    let h = c.requires in
     let asks = part-asks s.parts.now s.segs.now s.few s.there c.args.i h (c.start_of_part-first.ensures ∙ cond_yes _ _ (is-part s.parts.now c.args.i s.few h)) in
-    (asks.0, asks.1, c.requires.1)
+    (asks.0, asks.1)
 
 pub returns : goal.returns
 returns c =
-    let s = c.args.self.now in
-    let h = c.requires.0 in
+    let s = c.args.self.now.posed in
+    let h = c.requires in
     part-taken s.parts.now s.segs.now s.few s.there c.args.i h (c.start_of_part-first.ensures ∙ cond_yes _ _ (is-part s.parts.now c.args.i s.few h))
-    s.q (mouths_in s.mouths.now) (drawn_material c.args.m.now) c.args.from c.placement_at-place.ensures c.sunk_part.ensures
+    s.q (mouths_in c.args.self.now.mouths.now) (drawn_material c.args.m.now.material) c.args.from c.placement_at-place.ensures c.sunk_part.ensures

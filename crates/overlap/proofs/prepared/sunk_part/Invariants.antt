@@ -9,5 +9,5 @@ use Rattle.overlap.proofs.prepared.sunk_part.Given as goal
 
 abbrev pub invariant-loop-i : goal.invariant-loop-i
 invariant-loop-i l =
-    squares_from (drawn_material l.m) (world_of l.place) (sampled_at (table_rows l.t)) l.first l.n l.d l.i
-    ≡ deepest_square (drawn_material l.m) l.from (map (world_of l.place) (list_in (sampled_at (table_rows l.t)) l.n l.first))
+    squares_from (drawn_material l.m.material) (world_of l.place) (sampled_at (table_rows l.t)) l.first l.n l.d l.i
+    ≡ deepest_square (drawn_material l.m.material) l.from (map (world_of l.place) (list_in (sampled_at (table_rows l.t)) l.n l.first))

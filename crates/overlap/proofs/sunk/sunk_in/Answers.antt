@@ -1,8 +1,8 @@
 use native.Mathlib.Omega.{arith}
 use Prim.Native.Nat.{◌<◌, ◌≤◌}
 use borrow.Author.Tests.{eq-eqb, ne_eqb}
-use mathlib.Core.Path.{sym, subst, ◌∙◌}
-use Rattle.material.specs.Material.{drawn_material}
+use mathlib.Core.Path.{◌≡◌, sym, ap, subst, ◌∙◌}
+use Rattle.material.specs.Material.{Material, drawn_material, deepest_square}
 use Rattle.material.proofs.Squares.{PlainNumber, zero_plain}
 use Rattle.overlap.specs.Overlap.{owner_at}
 use Rattle.overlap.proofs.Deepest.{sunk_start, sunk_plain, sunk_more, sunk_skip, sunk_end}
@@ -24,8 +24,7 @@ pub deepest-d-requires : goal.deepest-d-requires
 deepest-d-requires g c =
     let s = c.args in
     let e = c.count-i-end.ensures in
-    let h : c.loop-i.i < g.S.Sampled.count s.s.now = omega (arith, e) in
-    (h, c.y_range-range.ensures)
+    omega (arith, e)
 
 pub loop-i-preserved : goal.loop-i-preserved
 loop-i-preserved g c =
@@ -36,9 +35,12 @@ loop-i-preserved g c =
     let f = g.S.Sampled.samples s.s.now in
     let n = g.S.Sampled.count s.s.now in
     let h : c.loop-i.i < g.S.Sampled.count s.s.now = omega (arith, e) in
+    let same : drawn_material c.ranged-ranged.result.material ≡ m = ap drawn_material c.ranged-ranged.ensures.0 in
     elim c.if-w-i-eq1.branch [
       | then-w-i-eq1 w ↦
-          let taken = w.d-is ∙ w.deepest-d.ensures in
+          let sunk : w.deepest-d.result ≡ deepest_square m c.loop-i.d (f c.loop-i.i) =
+          subst (λ (x : Material). w.deepest-d.result ≡ deepest_square x c.loop-i.d (f c.loop-i.i)) same w.deepest-d.ensures in
+          let taken = w.d-is ∙ sunk in
           record {
             plain = sunk_plain m f (owner_at s.w) n c.loop-i.d c.loop-i.i k.plain taken;
             deep = sunk_more m f (owner_at s.w) n c.loop-i.d c.loop-i.i k.plain taken h (eq-eqb _ 1 w.if-w-i-eq1.true) ∙ k.deep;

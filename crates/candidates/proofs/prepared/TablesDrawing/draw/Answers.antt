@@ -1,8 +1,0 @@
-use Rattle.strips.specs.Strips.{table_rows}
-use Rattle.candidates.proofs.Drawn.{held-or}
-use Rattle.candidates.proofs.prepared.TablesDrawing.draw.Goals as goal
-
-pub returns : goal.returns
-returns c =
-    let s = c.args in
-    held-or (table_rows s.self.now) s.q s.c s.points.now s.starts.now c.requires.0 c.requires.1 c.requires.2 c.draw_in.ensures

@@ -1,0 +1,44 @@
+// Drawn material with the range of its points' ordinates.
+ghost use Rattle.std.specs.Prelude.{◌≡◌};
+ghost use Rattle.ieee.specs.Num.{max_of};
+ghost use Rattle.material.specs.Material.{drawn_material, square_depth};
+ghost use Rattle.material.specs.Range.{range_of};
+
+use super::{DrawnMaterial, Range, is_outside, y_range};
+use geometry::Point;
+use ieee::num::max;
+
+// A drawn material with the range of its points' ordinates.
+#[derive(Clone, Copy)]
+pub struct Ranged<'a> {
+    pub material: DrawnMaterial<'a>,
+    pub range: Range,
+
+    ghost of_points: { range ≡ range_of material.points.now },
+}
+
+impl<'a> DrawnMaterial<'a> {
+    // It with the range of its points' ordinates.
+    pub fn ranged(self) -> Ranged<'a>
+        ensures { (result.material ≡ self.entry) × (result.range ≡ range_of self.entry.points.now) }
+    {
+        Ranged {
+            material: self,
+            range: y_range(self.points),
+        }
+    }
+}
+
+impl Ranged<'_> {
+    // The largest of d and the square of p's depth, with the points outside the range settled at once.
+    #[tactic(auto, using(crate::proofs::Serves::serves_max, crate::proofs::Outside::outside_square))]
+    pub fn deeper_square(&self, p: Point, d: f64) -> f64
+        ensures { result ≡ max_of d (square_depth (drawn_material self.now.material) p) }
+    {
+        if is_outside(self.range.lo, self.range.hi, p.y) {
+            max(d, 0.0)
+        } else {
+            max(d, self.material.square_depth(p, d))
+        }
+    }
+}
