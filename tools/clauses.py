@@ -9,12 +9,6 @@ ON_PURPOSE = [
     'streams::next_text the result',
     'streams::next_text `input`',
     'streams::next_text `buf`',
-    'streams::for_each_text the result',
-    'streams::for_each_text `input`',
-    'streams::for_each_text `out`',
-    'streams::repeat the result',
-    'streams::repeat `input`',
-    'streams::repeat `out`',
 ]
 # Outcomes of functions that lend a part of what is lent to them: what it holds in the end is what the borrower writes there.
 LENT_ON = ['mechanism::lent `self`']

@@ -211,10 +211,12 @@ fn replay<R: Read, W: Write>(input: &mut R, out: &mut W) -> io::Result<bool> {
 }
 
 fn main(rt: HostRuntime) -> io::Result<()> {
-    streams::repeat(
-        &mut rt.stdin(),
-        &mut BufWriter::new(rt.alloc(), rt.stdout())?,
-        100000,
-        replay,
-    )
+    let mut input = rt.stdin();
+    let mut out = BufWriter::new(rt.alloc(), rt.stdout())?;
+    for _ in 0..100000 {
+        if !replay(&mut input, &mut out)? {
+            break;
+        }
+    }
+    out.flush()
 }

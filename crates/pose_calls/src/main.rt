@@ -269,20 +269,16 @@ fn read_fields<R: Read>(input: &mut R, letter: u8) -> io::Result<Fields> {
     Ok(fields_of(&line))
 }
 
-// Reads and answers a line; false at the end of the input.
-fn next<R: Read, W: Write>(input: &mut R, out: &mut W, s: &mut State) -> io::Result<bool> {
-    let Some(letter) = next_letter(input)? else {
-        return Ok(false);
-    };
-    let f = read_fields(input, letter)?;
-    *s = answer(out, letter, *s, f)?;
-    Ok(true)
-}
-
 fn main(rt: HostRuntime) -> io::Result<()> {
+    let mut input = rt.stdin();
     let mut out = BufWriter::new(rt.alloc(), rt.stdout())?;
     let mut s = blank_state(0);
-    streams::repeat(&mut rt.stdin(), &mut out, 10000000, |input, out| {
-        next(input, out, &mut s)
-    })
+    for _ in 0..10000000 {
+        let Some(letter) = next_letter(&mut input)? else {
+            break;
+        };
+        let f = read_fields(&mut input, letter)?;
+        s = answer(&mut out, letter, s, f)?;
+    }
+    out.flush()
 }

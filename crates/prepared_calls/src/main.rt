@@ -172,9 +172,17 @@ fn answer<W: Write>(out: &mut W, largest: &mut Option<Mechanism>, text: &[u8]) -
 }
 
 fn main(rt: HostRuntime) -> io::Result<()> {
+    let mut input = rt.stdin();
     let mut out = BufWriter::new(rt.alloc(), rt.stdout())?;
     let mut largest = None;
-    streams::for_each_text(&mut rt.stdin(), &mut out, |out, text| {
-        answer(out, &mut largest, text)
-    })
+    let mut buf = [0u8; 65537];
+    for _ in 0..1000000 {
+        let Some(n) = streams::next_text(&mut input, &mut buf)? else {
+            break;
+        };
+        if let Some(text) = buf.get(..n) {
+            answer(&mut out, &mut largest, text)?;
+        }
+    }
+    out.flush()
 }

@@ -118,10 +118,12 @@ fn next<R: Read, W: Write>(input: &mut R, out: &mut W) -> io::Result<bool> {
 }
 
 fn main(rt: HostRuntime) -> io::Result<()> {
-    streams::repeat(
-        &mut rt.stdin(),
-        &mut BufWriter::new(rt.alloc(), rt.stdout())?,
-        100000,
-        next,
-    )
+    let mut input = rt.stdin();
+    let mut out = BufWriter::new(rt.alloc(), rt.stdout())?;
+    for _ in 0..100000 {
+        if !next(&mut input, &mut out)? {
+            break;
+        }
+    }
+    out.flush()
 }

@@ -184,9 +184,16 @@ fn answer<W: Write>(out: &mut W, text: &[u8]) -> io::Result<()> {
 }
 
 fn main(rt: HostRuntime) -> io::Result<()> {
-    streams::for_each_text(
-        &mut rt.stdin(),
-        &mut BufWriter::new(rt.alloc(), rt.stdout())?,
-        answer,
-    )
+    let mut input = rt.stdin();
+    let mut out = BufWriter::new(rt.alloc(), rt.stdout())?;
+    let mut buf = [0u8; 65537];
+    for _ in 0..1000000 {
+        let Some(n) = streams::next_text(&mut input, &mut buf)? else {
+            break;
+        };
+        if let Some(text) = buf.get(..n) {
+            answer(&mut out, text)?;
+        }
+    }
+    out.flush()
 }

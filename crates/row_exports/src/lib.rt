@@ -1,4 +1,5 @@
-// Functions over rows for a caller in Rust or C, on plain numbers: for the comparison in oracle/. An exported function takes no enum, so that a row goes as its seven whole numbers and its five floats.
+// Functions over rows for a caller in Rust or C, on plain numbers: for the comparison in oracle/.
+// An exported function takes no enum, so that a row goes as its seven whole numbers and its five floats.
 #![tactic(auto)]
 
 ghost use Rattle.std.specs.Prelude.{◌≡◌, ◌≤◌, length, take, unwrap_or};
@@ -40,7 +41,8 @@ pub extern "C" fn sewqirun_gap(
     pair: usize,
     x: f64,
 ) -> f64
-    ensures { result ≡ unwrap_or (gap_of (pair_in places.now) (gap_in values.now) (governing_of (pair_in places.now) (gap_in values.now) (records_in n (length places.now) (length values.now)) pair)) x }
+    ensures { result ≡ unwrap_or (gap_of (pair_in places.now) (gap_in values.now)
+        (governing_of (pair_in places.now) (gap_in values.now) (records_in n (length places.now) (length values.now)) pair)) x }
 {
     let rows = ReadRows {
         places,

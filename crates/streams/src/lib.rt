@@ -1,15 +1,14 @@
 // Reading whole buffers and texts behind their length, over any reader.
 #![tactic(auto)]
 
-ghost use Rattle.std.specs.Prelude.{◌≡◌, ◌<◌, length, take, fold, IfOk, OnOk, MatchOption};
+ghost use Rattle.std.specs.Prelude.{◌≡◌, ◌<◌, length, take, fold, IfOk, MatchOption};
 ghost use Rattle.std.specs.Io.{ReadsAtMost};
 ghost use Rattle.std.specs.Io.KnownBytes.{Consumes, IsAtEnd};
 ghost use Rattle.streams.specs.Numbers.{tens};
-ghost use Rattle.streams.specs.Steps.{StepsToEnd};
-ghost use Rattle.streams.specs.Texts.{AnswersEach, EndsBelow, ReadsText};
+ghost use Rattle.streams.specs.Texts.{EndsBelow, ReadsText};
 
 use std::io;
-use std::io::{Read, Write};
+use std::io::Read;
 
 // Reads until `buf` is full or the input ends, and returns how many bytes it put at the start of `buf`.
 pub fn read_full<R: Read>(input: &mut R, buf: &mut [u8]) -> io::Result<usize>
@@ -62,44 +61,4 @@ pub fn next_text<R: Read>(input: &mut R, buf: &mut [u8]) -> io::Result<Option<us
         read_full(input, &mut buf[..n])?;
     }
     Ok(Some(n))
-}
-
-// Answers each text behind its length, at most a million of them, and flushes what was written.
-pub fn for_each_text<R: Read, W: Write, F: FnMut(&mut W, &[u8]) -> io::Result<()>>(
-    input: &mut R,
-    out: &mut W,
-    mut answer: F,
-) -> io::Result<()>
-    requires { F.IsAlwaysCallable answer }
-    ensures { OnOk result (AnswersEach F.FnMut W.contents 1000000 65537 (answer, out.old) out.new
-        (R.remaining input.old) (R.remaining input.new)) }
-{
-    let mut buf = [0u8; 65537];
-    for _ in 0..1000000usize {
-        let Some(n) = next_text(input, &mut buf)? else {
-            break;
-        };
-        if let Some(text) = buf.get(..n) {
-            answer(out, text)?;
-        }
-    }
-    out.flush()
-}
-
-// Takes steps until one says that there is no more, at most so many of them, and flushes what was written.
-pub fn repeat<R: Read, W: Write, F: FnMut(&mut R, &mut W) -> io::Result<bool>>(
-    input: &mut R,
-    out: &mut W,
-    most: usize,
-    mut step: F,
-) -> io::Result<()>
-    requires { F.IsAlwaysCallable step }
-    ensures { OnOk result (StepsToEnd F.FnMut W.contents most (step, input.old, out.old) input.new out.new) }
-{
-    for _ in 0..most {
-        if !step(input, out)? {
-            break;
-        }
-    }
-    out.flush()
 }
