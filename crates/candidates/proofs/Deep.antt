@@ -15,7 +15,7 @@ use Rattle.sides.specs.declared.PlacedFace.{PlacedFace}
 use Rattle.proximities.specs.declared.Candidate.{Candidate}
 use Rattle.proximities.specs.Proximities.{reading, kept_if, exchanged, is_deep, real_of, center_real, found_deep, read_ab, read_ba, read_discs, read_center, each}
 use Rattle.candidates.specs.declared.PlacedSides.{PlacedSides}
-use Rattle.candidates.specs.Candidates.{disc_deep, any_deep, center_deep, placed_candidates}
+use Rattle.candidates.specs.Candidates.{disc_deep, any_deep, center_deep, candidates_in, placed_candidates}
 use Rattle.sides.specs.Features.{faces_in, discs_in}
 use Rattle.std.proofs.Common.{Option, Some, None}
 
@@ -62,12 +62,12 @@ module _ (m m' : Material) where
       ap (reading f.piece piece 2)
       (kept_same (λ x. center_real m c x.gap) (λ x. center_real m' c x.gap) (λ x g. counts (is_deep x.gap) _ _ g) (center_on_face c f.face) e)
 
-  each-ab_same : (discs : List PlacedDisc) (faces : List PlacedFace) → any_deep discs faces ≡ false → each (read_ab m) discs faces ≡ each (read_ab m') discs faces
+  pub each-ab_same : (discs : List PlacedDisc) (faces : List PlacedFace) → any_deep discs faces ≡ false → each (read_ab m) discs faces ≡ each (read_ab m') discs faces
   each-ab_same discs faces =
       flat-same (λ d. disc_deep faces d.disc) (λ d. flat (read_ab m d) faces) (λ d. flat (read_ab m' d) faces)
       (λ d. flat-same (λ f. found_deep (disc_on_face d.disc f.face)) (read_ab m d) (read_ab m' d) (ab_same d) faces) discs
 
-  each-ba_same : (discs : List PlacedDisc) (faces : List PlacedFace) → any_deep discs faces ≡ false → each (read_ba m) discs faces ≡ each (read_ba m') discs faces
+  pub each-ba_same : (discs : List PlacedDisc) (faces : List PlacedFace) → any_deep discs faces ≡ false → each (read_ba m) discs faces ≡ each (read_ba m') discs faces
   each-ba_same discs faces =
       flat-same (λ d. disc_deep faces d.disc) (λ d. flat (read_ba m d) faces) (λ d. flat (read_ba m' d) faces)
       (λ d. flat-same (λ f. found_deep (disc_on_face d.disc f.face)) (read_ba m d) (read_ba m' d) (ba_same d) faces) discs
@@ -76,9 +76,14 @@ module _ (m m' : Material) where
   flat-center_same piece c faces = flat-same (λ f. found_deep (center_on_face c f.face)) (read_center m piece c) (read_center m' piece c) (center_same piece c) faces
 
 -- the candidates of two sides in the world, where nothing is deep either way
+pub candidates_same : (ma ma' mb mb' : Material) (fa : List PlacedFace) (da : List PlacedDisc) (fb : List PlacedFace) (db : List PlacedDisc) → any_deep da fb ≡ false → any_deep db fa ≡ false
+    → candidates_in ma mb fa da fb db ≡ candidates_in ma' mb' fa da fb db
+candidates_same ma ma' mb mb' fa da fb db p q =
+    ap₂ (λ (x y : List Candidate). x ++ (y ++ each read_discs da db)) (each-ab_same mb mb' da fb p) (each-ba_same ma ma' db fa q)
+
 pub placed_same : (ma ma' mb mb' : Material) (s : PlacedSides) → any_deep (discs_in s.a.now) (faces_in s.b.now) ≡ false → any_deep (discs_in s.b.now) (faces_in s.a.now) ≡ false
     → placed_candidates ma mb s ≡ placed_candidates ma' mb' s
 placed_same ma ma' mb mb' s p q =
     let a = s.a.now in
     let b = s.b.now in
-    ap₂ (λ (x y : List Candidate). x ++ (y ++ each read_discs (discs_in a) (discs_in b))) (each-ab_same mb mb' (discs_in a) (faces_in b) p) (each-ba_same ma ma' (discs_in b) (faces_in a) q)
+    candidates_same ma ma' mb mb' (faces_in a) (discs_in a) (faces_in b) (discs_in b) p q

@@ -98,7 +98,12 @@ pub record FewPlaced (s : PlacedSides) (n : ℕ) : Type 0 where
 abbrev pub candidates_of : Reading → List Candidate
 candidates_of r = reading r.a r.b r.who r.near
 
--- what a side is before it is placed
+-- what a face is before it is placed, and a side
+abbrev pub blank_face : PlacedFace
+blank_face =
+    let o : Point = record { x = zero_f; y = zero_f } in
+    record { piece = Segment 0 0; face = record { a = o; b = o; normal = record { x = zero_f; y = zero_f } } }
+
 abbrev pub blank_side : SideFeatures
 blank_side =
     let o : Point = record { x = zero_f; y = zero_f } in
@@ -106,7 +111,7 @@ blank_side =
     record {
       body = 0;
       faces = 0;
-      face = replicate 12 (record { piece = Segment 0 0; face = record { a = o; b = o; normal = d } });
+      face = replicate 12 blank_face;
       discs = 0;
       disc = replicate 28 (record { piece = Segment 0 0; disc = record { center = o; radius = zero_f; from = d; to = d } });
       center = record { piece = Segment 0 0; point = o };

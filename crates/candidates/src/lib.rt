@@ -1,7 +1,7 @@
 // The candidates of a pair at a pose (contact/rows.rs: `read_pair`), in a lent array.
 #![tactic(auto)]
 
-ghost use Rattle.std.specs.Prelude.{◌≡◌, ℕ, true, cond, List, [], ◌+◌, ◌*◌, ◌<◌, ◌≤◌, length};
+ghost use Rattle.std.specs.Prelude.{◌≡◌, ℕ, true, cond, List, [], ◌+◌, ◌*◌, ◌<◌, ◌≤◌, length, take, map};
 ghost use Rattle.std.proofs.lemmas.List.Edits.{sets};
 ghost use Rattle.laws.specs.Lists.{list_in, flat};
 ghost use Rattle.bodies.specs.declared.pose.Pose.{Pose};
@@ -13,7 +13,7 @@ ghost use Rattle.drawing.specs.declared.Chosen.{Chosen};
 ghost use Rattle.proximities.specs.Proximities.{read_ab, read_ba, read_discs, read_center, each, Written};
 ghost use Rattle.proximities.specs.declared.Candidate.{Candidate};
 ghost use Rattle.candidates.specs.Candidates.{place_face, place_disc, faces_at, discs_at, disc_deep, any_deep, center_deep, no_material};
-ghost use Rattle.candidates.specs.Candidates.{placed_candidates, features_candidates, center_candidates, candidates_of, places_of, blank_side, FewPlaced, pair_candidates, candidate_room};
+ghost use Rattle.candidates.specs.Candidates.{placed_candidates, features_candidates, center_candidates, candidates_of, places_of, blank_face, blank_side, FewPlaced, pair_candidates, candidate_room};
 ghost use Rattle.candidates.specs.declared.Reading.{Reading};
 ghost use Rattle.sides.specs.Features.{faces_in, discs_in};
 
@@ -66,6 +66,18 @@ fn put_front<T: Copy, F: Fn(usize) -> T>(out: &mut [T], n: usize, element: F)
     }
 }
 
+// Writes a side's faces, placed, to the front, and answers how many.
+fn place_faces<S: Side>(out: &mut [PlacedFace], s: &S, place: Placement) -> usize
+    requires { 12 ≤ length out.old }
+    ensures few { (result ≤ 12) × (result ≤ length out.new) }
+    ensures count { result ≡ length (faces_in (S.features s.now)) }
+    ensures placed { take result out.new ≡ map (place_face place) (faces_in (S.features s.now)) }
+{
+    let faces = s.faces();
+    put_front(out, faces, |i| place_face(place, s.face(i)));
+    faces
+}
+
 // Writes a side's faces and discs in the world. They go where they are read, since a side is large to move.
 fn place_side<S: Side>(out: &mut SideFeatures, s: &S, q: Pose)
     ensures few { (out.new.faces ≤ 12) × (out.new.discs ≤ 28) }
@@ -73,26 +85,34 @@ fn place_side<S: Side>(out: &mut SideFeatures, s: &S, q: Pose)
     ensures placed { (faces_in out.new ≡ faces_at (S.features s.now) q) × (discs_in out.new ≡ discs_at (S.features s.now) q) }
 {
     let place = placement_at(q, s.body());
-    let faces = s.faces();
     let discs = s.discs();
-    put_front(&mut out.face, faces, |i| place_face(place, s.face(i)));
+    out.faces = place_faces(&mut out.face, s, place);
     put_front(&mut out.disc, discs, |i| place_disc(place, s.disc(i)));
-    out.faces = faces;
     out.discs = discs;
 }
 
-// What a side is before it is placed: zeros throughout, which are cheap to write.
+// What a face is before it is placed: zeros throughout, which are cheap to write.
+fn blank_face() -> PlacedFace
+    ensures { result ≡ blank_face }
+{
+    let o = Point { x: 0.0, y: 0.0 };
+    PlacedFace {
+        piece: Piece::Segment { part: 0, seg: 0 },
+        face: Face {
+            a: o,
+            b: o,
+            normal: Dir { x: 0.0, y: 0.0 },
+        },
+    }
+}
+
+// What a side is before it is placed: zeros too.
 fn blank_side() -> SideFeatures
     ensures { result ≡ blank_side }
 {
     let piece = Piece::Segment { part: 0, seg: 0 };
     let o = Point { x: 0.0, y: 0.0 };
     let d = Dir { x: 0.0, y: 0.0 };
-    let face = Face {
-        a: o,
-        b: o,
-        normal: d,
-    };
     let disc = Disc {
         center: o,
         radius: 0.0,
@@ -102,7 +122,7 @@ fn blank_side() -> SideFeatures
     SideFeatures {
         body: 0,
         faces: 0,
-        face: [PlacedFace { piece, face }; 12],
+        face: [blank_face(); 12],
         discs: 0,
         disc: [PlacedDisc { piece, disc }; 28],
         center: PlacedPoint { piece, point: o },
@@ -221,11 +241,11 @@ fn discs_on_discs(out: &mut [Candidate], at: usize, s: &PlacedSides) -> usize
 fn center_on_faces(
     out: &mut [Candidate],
     c: PlacedPoint,
-    a: &SideFeatures,
+    faces: &[PlacedFace],
     m: &DrawnMaterial,
 ) -> usize
-    requires { (a.now.faces ≤ 12) × (a.now.faces ≤ length out.old) }
-    ensures { Written (flat (read_center (drawn_material m.now) c.piece c.point) (faces_in a.now)) 0 result out.old out.new }
+    requires { length faces.now ≤ length out.old }
+    ensures { Written (flat (read_center (drawn_material m.now) c.piece c.point) faces.now) 0 result out.old out.new }
 {
     let read = |f: PlacedFace| Reading {
         a: f.piece,
@@ -233,7 +253,7 @@ fn center_on_faces(
         who: 2,
         near: center_on(m, c.point, f.face),
     };
-    put_each(out, 0, &a.face[..a.faces], read)
+    put_each(out, 0, faces, read)
 }
 
 // ---- whether the material is asked for
@@ -397,23 +417,23 @@ fn deep_center_with<const N: usize, D: Drawing>(
     out: &mut [Candidate],
     from: &D,
     c: PlacedPoint,
-    a: &SideFeatures,
+    faces: &[PlacedFace],
 ) -> usize
-    requires { (D.most from.now ≤ N) × (N ≤ 6144) × (a.now.faces ≤ 12) × (a.now.faces ≤ length out.old) }
-    ensures { Written (flat (read_center (D.material_a from.now) c.piece c.point) (faces_in a.now)) 0 result out.old out.new }
+    requires { (D.most from.now ≤ N) × (N ≤ 6144) × (length faces.now ≤ length out.old) }
+    ensures { Written (flat (read_center (D.material_a from.now) c.piece c.point) faces.now) 0 result out.old out.new }
 {
     let mut points = [[0.0; 2]; N];
     let mut starts = [0; 33];
     let n = from.draw_a(&mut points, &mut starts);
-    center_on_faces(out, c, a, &n.held(&points, &starts))
+    center_on_faces(out, c, faces, &n.held(&points, &starts))
 }
 
 // Without material.
-fn plain_center(out: &mut [Candidate], c: PlacedPoint, a: &SideFeatures) -> usize
-    requires { (a.now.faces ≤ 12) × (a.now.faces ≤ length out.old) }
-    ensures { Written (flat (read_center no_material c.piece c.point) (faces_in a.now)) 0 result out.old out.new }
+fn plain_center(out: &mut [Candidate], c: PlacedPoint, faces: &[PlacedFace]) -> usize
+    requires { length faces.now ≤ length out.old }
+    ensures { Written (flat (read_center no_material c.piece c.point) faces.now) 0 result out.old out.new }
 {
-    center_on_faces(out, c, a, &nothing())
+    center_on_faces(out, c, faces, &nothing())
 }
 
 // With the material, or without it where no room is enough.
@@ -421,19 +441,19 @@ fn deep_center<D: Drawing>(
     out: &mut [Candidate],
     from: &D,
     c: PlacedPoint,
-    a: &SideFeatures,
+    faces: &[PlacedFace],
 ) -> usize
-    requires { (a.now.faces ≤ 12) × (a.now.faces ≤ length out.old) }
-    ensures { Written (flat (read_center (D.material_a from.now) c.piece c.point) (faces_in a.now)) 0 result out.old out.new }
+    requires { length faces.now ≤ length out.old }
+    ensures { Written (flat (read_center (D.material_a from.now) c.piece c.point) faces.now) 0 result out.old out.new }
 {
     let n = from.room();
     if n <= 512 {
-        return deep_center_with::<512, D>(out, from, c, a);
+        return deep_center_with::<512, D>(out, from, c, faces);
     }
     if n <= 6144 {
-        return deep_center_with::<6144, D>(out, from, c, a);
+        return deep_center_with::<6144, D>(out, from, c, faces);
     }
-    plain_center(out, c, a)
+    plain_center(out, c, faces)
 }
 
 // The material is asked for where something reads deep.
@@ -441,15 +461,15 @@ fn center_candidates<D: Drawing>(
     out: &mut [Candidate],
     from: &D,
     c: PlacedPoint,
-    a: &SideFeatures,
+    faces: &[PlacedFace],
 ) -> usize
-    requires { (a.now.faces ≤ 12) × (a.now.faces ≤ length out.old) }
-    ensures { Written (flat (read_center (D.material_a from.now) c.piece c.point) (faces_in a.now)) 0 result out.old out.new }
+    requires { length faces.now ≤ length out.old }
+    ensures { Written (flat (read_center (D.material_a from.now) c.piece c.point) faces.now) 0 result out.old out.new }
 {
-    if center_deep(c.point, &a.face[..a.faces]) {
-        return deep_center(out, from, c, a);
+    if center_deep(c.point, faces) {
+        return deep_center(out, from, c, faces);
     }
-    plain_center(out, c, a)
+    plain_center(out, c, faces)
 }
 
 // ---- the candidates of a pair, with the parts of each side's material
@@ -474,9 +494,9 @@ fn of_center<S: Side, D: Drawing>(out: &mut [Candidate], from: &D, q: Pose, a: &
         piece: center.piece,
         point: placement_at(q, b.body()).world(center.point),
     };
-    let mut placed = blank_side();
-    place_side(&mut placed, a, q);
-    center_candidates(out, from, c, &placed)
+    let mut placed = [blank_face(); 12];
+    let faces = place_faces(&mut placed, a, placement_at(q, a.body()));
+    center_candidates(out, from, c, &placed[..faces])
 }
 
 fn drawn_candidates(out: &mut [Candidate], ps: Parts, o: Outlines, q: Pose, p: ContactPair) -> usize

@@ -1,5 +1,6 @@
 pub mod Known
 pub mod Segments
+pub mod Starts
 pub mod Draws
 pub mod Rooms
 pub mod Mouths

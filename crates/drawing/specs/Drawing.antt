@@ -1,5 +1,5 @@
 -- The drawn material of parts at a pose (contact/rows.rs: `material`, `material_of`, `is_read`, `is_sampled`), and its polygons in lent arrays. Definitions only.
-use Rattle.std.specs.Prelude.{ℕ, ◌+◌, ◌*◌, ◌≡◌, Bool, true, false, not, ◌&&◌, ◌||◌, cond, List, [], ◌∷◌, ◌++◌, map, eqb, leb, length, take, get_or, Float}
+use Rattle.std.specs.Prelude.{ℕ, ◌+◌, ◌*◌, ◌≡◌, Bool, true, false, not, ◌&&◌, ◌||◌, cond, List, [], ◌∷◌, ◌++◌, map, eqb, leb, min, length, take, get_or, Float}
 use Rattle.std.proofs.lemmas.List.Edits.{sets}
 use Rattle.laws.specs.Lists.{list_in, flat, any}
 use Rattle.laws.specs.Loops.{filter_in}
@@ -7,7 +7,7 @@ use Rattle.geometry.specs.Geometry.{drawn_of}
 use Rattle.geometry.specs.declared.Point.{Point}
 use Rattle.geometry.specs.declared.Seg.{Seg}
 use Rattle.mechanism.specs.Check.{parts_over}
-use Rattle.mechanism.specs.Description.{part_at, range_at}
+use Rattle.mechanism.specs.Description.{part_at, range_at, segs_of, sum_in}
 use Rattle.mechanism.specs.Segments.{segs_counted}
 use Rattle.bodies.specs.Pose.{placement_at, world_of}
 use Rattle.mechanism.specs.declared.Outlines.{Outlines}
@@ -25,6 +25,14 @@ use Rattle.material.specs.declared.DrawnMaterial.{DrawnMaterial}
 use Rattle.drawing.specs.declared.Chosen.{Chosen}
 use Rattle.drawing.specs.declared.outlined.Cursor.{Cursor}
 use Rattle.drawing.specs.declared.Polygons.{Polygons}
+
+-- where the outline of part i starts, behind those of the parts before it, of which none counts more than the limit, 48 segments
+abbrev pub start_within : Parts → ℕ → ℕ
+start_within ps i = sum_in (λ k. min (segs_of ps k) 48) i 0
+
+-- the same of each part
+abbrev pub part_starts : Parts → List ℕ
+part_starts ps = list_in (start_within ps) 32 0
 
 -- ---- which parts the overlap readings read
 abbrev pub is_cut : Role → Bool

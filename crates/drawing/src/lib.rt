@@ -9,7 +9,7 @@ ghost use Rattle.mechanism.specs.Description.{start_of_part};
 ghost use Rattle.mechanism.specs.Segments.{outlines_in};
 ghost use Rattle.silhouette.specs.Silhouette.{silhouette_from};
 ghost use Rattle.drawing.specs.Drawing.{is_cut, is_sampled, is_read_cut, body_of_side, is_own, has_own, what_is, side_chosen};
-ghost use Rattle.drawing.specs.Drawing.{drawn_points, polygon_of, solids_of, cuts_of, Laid, Held, row_of, room_for, room_from};
+ghost use Rattle.drawing.specs.Drawing.{drawn_points, polygon_of, solids_of, cuts_of, Laid, Held, row_of, room_for, room_from, part_starts};
 
 mod outlined;
 pub mod points;
@@ -25,8 +25,8 @@ use mechanism::part::{Part, Role, SurfaceRef, Sweep};
 use mechanism::segments::{SegRow, put_segs};
 use mechanism::{Outlines, Parts};
 use outlined::{Outlined, draw_chosen};
+use silhouette::is_in_the_section;
 use silhouette::rows::{silhouette_count, silhouette_seg};
-use silhouette::{is_in_the_section, start_of_part};
 
 // What each part is to a material: 1 a solid of it, 2 a cut of it, 0 neither.
 #[derive(Clone, Copy)]
@@ -216,12 +216,31 @@ fn draw_polygon<F: Fn(Point) -> Point>(
     to
 }
 
-// Parts with their outlines in rows, at a pose.
+// Where the outline of each part starts.
+pub type PartStarts = [usize; 32];
+
+// Where the outlines of parts start, one behind the other, of which none counts more than the limit, 48 segments.
+pub fn part_starts(ps: &Parts) -> PartStarts
+    ensures { result ≡ part_starts ps.now }
+{
+    let mut starts = [0; 32];
+    let mut at = 0;
+    for i in 0..32 {
+        starts[i] = at;
+        at += ps.part[i].segs.min(48);
+    }
+    starts
+}
+
+// Parts with their outlines in rows, and where each starts, at a pose.
 #[derive(Clone, Copy)]
 struct PlacedParts<'a> {
     parts: &'a Parts,
     segs: &'a [SegRow],
+    starts: PartStarts,
     q: Pose,
+
+    ghost begun: { starts ≡ part_starts parts.now },
 
     ghost few: { FewParts parts.now },
 
@@ -241,7 +260,7 @@ impl Outlined for PlacedParts<'_> {
 
     fn draw_part(&self, points: &mut [Spot], at: usize, i: usize) -> usize {
         let p = self.parts.part[i];
-        let first = start_of_part(*self.parts, i);
+        let first = self.starts[i];
         let place = placement_at(self.q, p.body);
         draw_polygon(points, at, self.segs, first, p, &|x| place.world(x))
     }
@@ -272,7 +291,12 @@ pub fn draw_from(
     let m = starts.len();
     let l = segs.len();
     if room_from(*ps, n, m, l) {
-        let placed = PlacedParts { parts: ps, segs, q };
+        let placed = PlacedParts {
+            parts: ps,
+            segs,
+            starts: part_starts(ps),
+            q,
+        };
         return draw_chosen(points, starts, &placed, c);
     }
     no_polygons()

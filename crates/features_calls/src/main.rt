@@ -4,8 +4,8 @@
 // are the Rust's.
 #![tactic(auto)]
 
-use bodies::Problem;
 use geometry::Point;
+use mechanism::Mechanism;
 use mechanism::features::Piece;
 use sides::contacts::{Contacts, with_contacts};
 use sides::{PlacedDisc, PlacedFace, SideFeatures};
@@ -47,7 +47,7 @@ fn print_disc<W: Write>(out: &mut W, d: PlacedDisc) -> io::Result<()> {
     writeln!(out)
 }
 
-fn print_side<W: Write>(out: &mut W, s: SideFeatures) -> io::Result<()> {
+fn print_side<W: Write>(out: &mut W, s: &SideFeatures) -> io::Result<()> {
     writeln!(out, "side,{},{},{}", s.body, s.faces, s.discs)?;
     for f in s.face.iter().take(s.faces) {
         print_face(out, *f)?;
@@ -60,23 +60,26 @@ fn print_side<W: Write>(out: &mut W, s: SideFeatures) -> io::Result<()> {
     writeln!(out)
 }
 
-fn print_contacts<W: Write>(out: &mut W, c: Contacts) -> io::Result<()> {
+fn print_contacts<W: Write>(out: &mut W, c: &Contacts) -> io::Result<()> {
     writeln!(out, "accepted,{}", c.count)?;
     for p in c.pair.iter().take(c.count) {
-        print_side(out, p.a)?;
-        print_side(out, p.b)?;
+        print_side(out, &p.a)?;
+        print_side(out, &p.b)?;
     }
     Ok(())
 }
 
-// The features of the description that a text gives.
-fn contacts_of(text: &[u8]) -> Result<Contacts, Problem> {
-    with_contacts(sheet::read(text)?.mechanism)
+// The features are made in a call of their own, so that a refused text does not pay for them.
+fn print_features<W: Write>(out: &mut W, m: Mechanism) -> io::Result<()> {
+    match with_contacts(m) {
+        Ok(c) => print_contacts(out, &c),
+        Err(p) => writeln!(out, "{p}"),
+    }
 }
 
 fn answer<W: Write>(out: &mut W, text: &[u8]) -> io::Result<()> {
-    match contacts_of(text) {
-        Ok(c) => print_contacts(out, c),
+    match sheet::read(text) {
+        Ok(s) => print_features(out, s.mechanism),
         Err(p) => writeln!(out, "{p}"),
     }
 }
@@ -84,8 +87,8 @@ fn answer<W: Write>(out: &mut W, text: &[u8]) -> io::Result<()> {
 fn main(rt: HostRuntime) -> io::Result<()> {
     let mut input = rt.stdin();
     let mut out = BufWriter::new(rt.alloc(), rt.stdout())?;
-    let mut buf = [0u8; 65537];
     for _ in 0..1000000 {
+        let mut buf = [0u8; 65537];
         let Some(n) = streams::next_text(&mut input, &mut buf)? else {
             break;
         };

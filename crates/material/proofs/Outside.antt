@@ -157,6 +157,16 @@ module _ (l : List (List Float)) (starts : List ℕ) (solids all : ℕ) (p : Poi
     | inr t ↦ not_held p l false ((range-covers l).over p.y t) starts solids all
   ]
 
+  -- the same for every point: in a range that is that of all points, the case outside it changes nothing
+  pub within-square : (r : Range) → r ≡ range_of l
+      → cond (outside_of r.lo r.hi p.y) zero_f (square_depth (material_of l starts solids all) p) ≡ square_depth (material_of l starts solids all) p
+  unfolding square_depth
+  within-square r e = rw e (go (outside_of (range_of l).lo (range_of l).hi p.y) refl)
+    where
+      go : (b : Bool) → outside_of (range_of l).lo (range_of l).hi p.y ≡ b → cond b zero_f (square_depth (material_of l starts solids all) p) ≡ square_depth (material_of l starts solids all) p
+      go true h = sym (cond_no _ _ (outside_held h))
+      go false h = refl
+
 -- THE LAW: outside the range of all points the square of the depth is zero
 pub outside_square : (m : DrawnMaterial) (r : Range) (p : Point) → r ≡ range_of m.points.now → outside_of r.lo r.hi p.y ≡ true → square_depth (drawn_material m) p ≡ zero_f
 unfolding square_depth

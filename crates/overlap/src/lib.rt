@@ -25,7 +25,9 @@ mod sunk;
 use bodies::pose::{Placement, Pose, placement_at};
 use bodies::{Bodies, Problem};
 use drawing::samples::{Mouth, draw_mouths, seg_samples};
-use drawing::{Chosen, Polygons, draw_from, is_own, is_read_cut, is_sampled, side_chosen, what_is};
+use drawing::{
+    Chosen, Polygons, draw_from, is_own, is_read_cut, is_sampled, part_starts, side_chosen, what_is,
+};
 use geometry::Point;
 use ieee::num::max;
 use material::Spot;
@@ -38,7 +40,6 @@ use mechanism::{Mechanism, Outlines, Pairs, Parts};
 use posed::Posed;
 use sides::center_of;
 use silhouette::rows::{silhouette_count, silhouette_seg};
-use silhouette::start_of_part;
 use sunk::{Both, Sampled, sunk_both};
 
 // ---- sunk
@@ -103,7 +104,7 @@ impl Sampled for PlacedSamples<'_> {
     fn deepest(&self, m: &Ranged, i: usize, from: f64) -> f64 {
         let s = &self.posed;
         let p = s.parts.part[i];
-        let first = start_of_part(*s.parts, i);
+        let first = s.starts[i];
         let place = placement_at(s.q, p.body);
         sunk_part(m, self.mouths, s.segs, first, p, place, from)
     }
@@ -209,7 +210,12 @@ fn overlap_over(
     ensures { result ≡ pair_overlap_at ps.now (outlines_in segs.now) q p }
 {
     if pair_drawn(*ps, p) {
-        let s = Posed { parts: ps, segs, q };
+        let s = Posed {
+            parts: ps,
+            segs,
+            starts: part_starts(ps),
+            q,
+        };
         return overlap_of_drawn(points, mouths, &s, p);
     }
     0.0
@@ -255,6 +261,7 @@ fn pair_answer(
     let s = Posed {
         parts: &m.parts,
         segs,
+        starts: part_starts(&m.parts),
         q,
     };
     Ok(overlap_of_drawn(points, mouths, &s, p))
@@ -394,6 +401,7 @@ fn overlap_of_parts(m: &Mechanism, q: Pose, a: &[usize], b: &[usize]) -> f64
     let s = Posed {
         parts: ps,
         segs: &segs,
+        starts: part_starts(ps),
         q,
     };
     let d = sunk_between(

@@ -82,8 +82,8 @@ fn answer<W: Write>(out: &mut W, text: &[u8]) -> io::Result<()> {
 fn main(rt: HostRuntime) -> io::Result<()> {
     let mut input = rt.stdin();
     let mut out = BufWriter::new(rt.alloc(), rt.stdout())?;
-    let mut buf = [0u8; 65537];
     for _ in 0..1000000 {
+        let mut buf = [0u8; 65537];
         let Some(n) = streams::next_text(&mut input, &mut buf)? else {
             break;
         };

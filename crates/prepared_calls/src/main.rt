@@ -12,7 +12,7 @@ use ieee::num::plain_zero;
 use mechanism::Mechanism;
 use mechanism::bearing::{Bearing, HowItBears};
 use mechanism::check::segs_counted;
-use mechanism::rows::RowArrays;
+use mechanism::rows::{LentRows, RowArrays};
 use overlap::prepared::pair_overlap;
 use reading::prepared::read_in;
 use reading::{PairReading, Reading};
@@ -89,13 +89,19 @@ type Rows = RowArrays<256, 4096>;
 // Reads the prepared description at the pose that the entries give.
 fn read_at(t: &Arrays, m: Mechanism, q: &[Lent], margin: f64) -> Result<(Reading, Rows), Problem> {
     let mut rows = Rows::blank();
+    let mut lent = LentRows {
+        places: &mut rows.places,
+        values: &mut rows.values,
+        grad: &mut rows.grad,
+        slip: &mut rows.slip,
+    };
     let r = read_in(
         m.bodies,
         &t.lent(m.parts.count),
         m.pairs.count,
         q,
         margin,
-        &mut rows.lent(),
+        &mut lent,
     )?;
     Ok((r, rows))
 }
@@ -175,8 +181,8 @@ fn main(rt: HostRuntime) -> io::Result<()> {
     let mut input = rt.stdin();
     let mut out = BufWriter::new(rt.alloc(), rt.stdout())?;
     let mut largest = None;
-    let mut buf = [0u8; 65537];
     for _ in 0..1000000 {
+        let mut buf = [0u8; 65537];
         let Some(n) = streams::next_text(&mut input, &mut buf)? else {
             break;
         };

@@ -5,7 +5,7 @@ ghost use Rattle.std.specs.Prelude.{◌≡◌, ◌≤◌, length};
 ghost use Rattle.laws.specs.Loops.{any_in};
 ghost use Rattle.mechanism.specs.Rows.{lists_of};
 ghost use Rattle.strips.specs.Strips.{table_rows};
-ghost use Rattle.pair_rows.specs.PairRows.{Room};
+ghost use Rattle.pair_rows.specs.PairRows.{Room, SameArrays};
 ghost use Rattle.shown_rows.specs.Rows.{answer_if, rows_over};
 ghost use Rattle.prepared_rows.specs.Prepared.{all_rows, bounds_in, falls_off, prepared_asked, prepared_lists, bound_of, PairRoom, PutPair, PutPairs};
 
@@ -39,7 +39,8 @@ fn put_pair_by(
     i: usize,
 ) -> usize
     requires { (bound_of asked.now i ≤ 1456) × (bound_of asked.now i ≤ length candidates.old) × PairRoom asked.now i at (lists_of rows.old) }
-    ensures { PutPair asked.now i at result (lists_of rows.old) (lists_of rows.new) }
+    ensures written { PutPair asked.now i at result (lists_of rows.old) (lists_of rows.new) }
+    ensures same { SameArrays rows.old rows.new }
 {
     let s = Source {
         pair: i,
@@ -61,7 +62,8 @@ fn put_pair_by(
 // The same with room for N candidates of its own.
 fn put_pair_with<const N: usize>(rows: &mut LentRows, at: usize, asked: &Asked, i: usize) -> usize
     requires { (bound_of asked.now i ≤ N) × (N ≤ 1456) × PairRoom asked.now i at (lists_of rows.old) }
-    ensures { PutPair asked.now i at result (lists_of rows.old) (lists_of rows.new) }
+    ensures written { PutPair asked.now i at result (lists_of rows.old) (lists_of rows.new) }
+    ensures same { SameArrays rows.old rows.new }
 {
     let mut candidates = [blank_candidate(); N];
     put_pair_by(&mut candidates, rows, at, asked, i)
@@ -70,7 +72,8 @@ fn put_pair_with<const N: usize>(rows: &mut LentRows, at: usize, asked: &Asked, 
 // With as much room as the pair's bound asks for. Each room is a call of its own: a function pays for all its arrays when it is entered.
 fn put_pair(rows: &mut LentRows, at: usize, asked: &Asked, i: usize) -> usize
     requires { PairRoom asked.now i at (lists_of rows.old) }
-    ensures { PutPair asked.now i at result (lists_of rows.old) (lists_of rows.new) }
+    ensures written { PutPair asked.now i at result (lists_of rows.old) (lists_of rows.new) }
+    ensures same { SameArrays rows.old rows.new }
 {
     let n = pair_bound_in(asked.tables, i);
     if n <= 32 {
@@ -88,7 +91,8 @@ fn put_pair(rows: &mut LentRows, at: usize, asked: &Asked, i: usize) -> usize
 fn put_pairs(rows: &mut LentRows, asked: &Asked, n: usize) -> usize
     requires { (asked.now.bodies.now.coords ≤ 16) × (n ≤ 16) × (bounds_in (table_rows asked.now.tables.now) n ≤ 23296)
         × Room asked.now.bodies.now.coords 0 (bounds_in (table_rows asked.now.tables.now) n) (lists_of rows.old) }
-    ensures { PutPairs asked.now n result (lists_of rows.old) (lists_of rows.new) }
+    ensures written { PutPairs asked.now n result (lists_of rows.old) (lists_of rows.new) }
+    ensures same { SameArrays rows.old rows.new }
 {
     let mut at = 0;
     for pair in 0..n {
@@ -135,6 +139,7 @@ pub fn rows_in(
 ) -> Result<usize, Problem>
     ensures value { result ≡ answer_if (prepared_asked bodies n (table_rows t.now) q (lists_of rows.old)) (length (all_rows (table_rows t.now) q margin n)) }
     ensures after { lists_of rows.new ≡ rows_over (prepared_asked bodies n (table_rows t.now) q (lists_of rows.old)) (prepared_lists (table_rows t.now) bodies q margin n) (lists_of rows.old) }
+    ensures same { SameArrays rows.old rows.new }
 {
     if 16 < n {
         return Err(Problem::LimitPassed);

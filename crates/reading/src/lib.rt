@@ -4,6 +4,7 @@
 ghost use Rattle.std.specs.Prelude.{◌≡◌, ℕ, ◌<◌, ◌≤◌, length};
 ghost use Rattle.mechanism.specs.Check.{check_of};
 ghost use Rattle.mechanism.specs.Rows.{lists_of};
+ghost use Rattle.pair_rows.specs.PairRows.{SameArrays};
 ghost use Rattle.shown_rows.specs.Rows.{rows_asked, shown_lists, rows_over};
 ghost use Rattle.governing.specs.Governing.{records_in};
 ghost use Rattle.reading.specs.declared.PairReading.{PairReading};
@@ -99,6 +100,7 @@ fn read_by(m: &Mechanism, q: Pose, rows: &LentRows, n: usize) -> Reading
 pub fn read(m: Mechanism, q: Pose, margin: f64, rows: &mut LentRows) -> Result<Reading, Problem>
     ensures value { result ≡ reading_asked m q margin (lists_of rows.old) }
     ensures after { lists_of rows.new ≡ rows_over (rows_asked m q (lists_of rows.old)) (shown_lists m q margin) (lists_of rows.old) }
+    ensures same { SameArrays rows.old rows.new }
 {
     let n = rows_in_numbers(m, q, margin, rows)?;
     Ok(read_by(&m, q, rows, n))

@@ -3,6 +3,7 @@ ghost use Rattle.std.specs.Prelude.{◌≡◌, ◌≤◌, length};
 ghost use Rattle.bodies.specs.Pose.{bodies_placed};
 ghost use Rattle.mechanism.specs.Rows.{lists_of};
 ghost use Rattle.strips.specs.Strips.{table_rows};
+ghost use Rattle.pair_rows.specs.PairRows.{SameArrays};
 ghost use Rattle.shown_rows.specs.Rows.{rows_over};
 ghost use Rattle.prepared_rows.specs.Prepared.{all_rows, prepared_lists, prepared_asked};
 ghost use Rattle.governing.specs.Governing.{records_in};
@@ -54,6 +55,7 @@ fn read_posed(
 ) -> Result<Reading, Problem>
     ensures value { result ≡ read_in (table_rows t.now) (prepared_asked bodies pairs (table_rows t.now) q (lists_of rows.old)) pairs q (all_rows (table_rows t.now) q margin pairs) }
     ensures after { lists_of rows.new ≡ rows_over (prepared_asked bodies pairs (table_rows t.now) q (lists_of rows.old)) (prepared_lists (table_rows t.now) bodies q margin pairs) (lists_of rows.old) }
+    ensures same { SameArrays rows.old rows.new }
 {
     let n = rows_in(bodies, t, pairs, q, margin, rows)?;
     Ok(read_by(t, pairs, q, rows, n))
@@ -75,6 +77,7 @@ pub fn read_in(
     ensures after { let r = table_rows t.now in
         let q = bodies_placed bodies entries.now in
         lists_of rows.new ≡ rows_over (read_asked bodies pairs r entries.now (lists_of rows.old)) (prepared_lists r bodies q margin pairs) (lists_of rows.old) }
+    ensures same { SameArrays rows.old rows.new }
 {
     if 16 < pairs {
         return Err(Problem::LimitPassed);

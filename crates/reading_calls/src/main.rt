@@ -12,7 +12,7 @@ use governing::RowEntries;
 use ieee::num::plain_zero;
 use mechanism::Mechanism;
 use mechanism::bearing::{Bearing, HowItBears};
-use mechanism::rows::{Place, ReadRows, Row, RowArrays, Value};
+use mechanism::rows::{LentRows, Place, ReadRows, Row, RowArrays, Value};
 use reading::{PairReading, Reading};
 use std::io;
 use std::io::{BufWriter, Write};
@@ -176,7 +176,13 @@ fn read_text(text: &[u8]) -> Result<Whole, Problem> {
     let m = s.mechanism;
     let q = sheet::posed::posed(m, s.entries)?;
     let mut arrays = RowArrays::<256, 4096>::blank();
-    let r = reading::read(m, q, s.margin, &mut arrays.lent())?;
+    let mut rows = LentRows {
+        places: &mut arrays.places,
+        values: &mut arrays.values,
+        grad: &mut arrays.grad,
+        slip: &mut arrays.slip,
+    };
+    let r = reading::read(m, q, s.margin, &mut rows)?;
     Ok(Whole {
         mechanism: m,
         pose: q,
@@ -195,8 +201,8 @@ fn answer<W: Write>(out: &mut W, text: &[u8]) -> io::Result<()> {
 fn main(rt: HostRuntime) -> io::Result<()> {
     let mut input = rt.stdin();
     let mut out = BufWriter::new(rt.alloc(), rt.stdout())?;
-    let mut buf = [0u8; 65537];
     for _ in 0..1000000 {
+        let mut buf = [0u8; 65537];
         let Some(n) = streams::next_text(&mut input, &mut buf)? else {
             break;
         };

@@ -4,7 +4,7 @@
 // `Bodies::pose`, `read_in`, `rows_in` and the prepared `pair_overlap`. The answers stored beside this program were written from document 01.
 #![tactic(auto)]
 
-use bodies::pose::{Lent, Pose};
+use bodies::pose::{Lent, Placement, Pose};
 use bodies::{Bodies, Body, Joint, Problem};
 use geometry::{Dir, Point};
 use mechanism::rows::RowArrays;
@@ -134,10 +134,20 @@ fn answer<W: Write>(out: &mut W, s: Sheet, placed: Pose) -> io::Result<()> {
     print_both(out, with_slide(b, 1, 0.0, 0.0), q, placed)
 }
 
-// What a text says, and the pose of its bodies for all sixteen entries.
+// The smallest text, of no bodies: what is asked about where another is refused.
+const NOTHING: &[u8] = b"M,0\nG,0000000000000000\n";
+
+// What a text says, or the smallest one, and the pose of its bodies for all sixteen entries; of no bodies where these are refused.
 fn placed(text: &[u8]) -> Result<(Sheet, Pose), Problem> {
-    let s = sheet::read(text)?;
-    Ok((s, s.mechanism.bodies.pose(&lent(s.entries))?))
+    let s = match sheet::read(text) {
+        Ok(s) => s,
+        Err(_) => sheet::read(NOTHING)?,
+    };
+    let none = Pose {
+        count: 0,
+        placement: [Placement::WORLD; 16],
+    };
+    Ok((s, s.mechanism.bodies.pose(&lent(s.entries)).unwrap_or(none)))
 }
 
 fn main(rt: HostRuntime) -> io::Result<()> {

@@ -6,7 +6,7 @@ ghost use Rattle.mechanism.specs.Check.{check_of, pair_drawn};
 ghost use Rattle.mechanism.specs.Rows.{place_row, value_row, lists_of};
 ghost use Rattle.sides.specs.Bounds.{row_bound};
 ghost use Rattle.sides.specs.Contacts.{pair_features, mechanism_bound};
-ghost use Rattle.pair_rows.specs.PairRows.{Put, Room};
+ghost use Rattle.pair_rows.specs.PairRows.{Put, Room, SameArrays};
 ghost use Rattle.shown_rows.specs.Rows.{rows_of, grads_of, slips_of, rows_checked, answer_if, rows_asked, shown_lists, rows_over};
 
 use bodies::Problem;
@@ -25,8 +25,9 @@ use sides::contacts::pair_features_at;
 // Writes the rows of all pairs of an accepted description.
 fn put_rows(rows: &mut LentRows, m: Mechanism, q: Pose, margin: f64) -> usize
     requires { (check_of m ≡ Ok tt) × Room m.bodies.coords 0 (mechanism_bound m) (lists_of rows.old) }
-    ensures { Put m.bodies.coords (map place_row (rows_of m q margin)) (map value_row (rows_of m q margin))
+    ensures written { Put m.bodies.coords (map place_row (rows_of m q margin)) (map value_row (rows_of m q margin))
         (grads_of m q margin) (slips_of m q margin) 0 result (lists_of rows.old) (lists_of rows.new) }
+    ensures same { SameArrays rows.old rows.new }
 {
     let mut candidates = [blank_candidate(); 784];
     let mut at = 0;
@@ -105,6 +106,7 @@ pub fn rows_in_numbers(
 ) -> Result<usize, Problem>
     ensures value { result ≡ answer_if (rows_asked m q (lists_of rows.old)) (length (rows_of m q margin)) }
     ensures after { lists_of rows.new ≡ rows_over (rows_asked m q (lists_of rows.old)) (shown_lists m q margin) (lists_of rows.old) }
+    ensures same { SameArrays rows.old rows.new }
 {
     rows_checked(
         m,

@@ -46,7 +46,7 @@ fn tens(value: usize, b: u8) -> usize
 }
 
 // Reads a text behind its length in six digits and a newline into the front of `buf`, and answers the length; none at the end of the input.
-// A text that is longer than `buf` is left in the input.
+// A text that is longer than `buf` is left in the input. Of one that the input cuts short, what stood in `buf` is left behind what was read: lent zeros stand for what is missing.
 pub fn next_text<R: Read>(input: &mut R, buf: &mut [u8]) -> io::Result<Option<usize>>
     ensures same { length buf.new ≡ length buf.old }
     ensures bytes { IfOk result (λ found. MatchOption found (EndsBelow 7 (R.remaining input.old) (R.remaining input.new))

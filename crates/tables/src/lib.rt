@@ -10,7 +10,8 @@ ghost use Rattle.tables.specs.Tables.{face_rows, face_names, disc_rows, disc_nam
 ghost use Rattle.tables.specs.Tables.{blank_arrays, lent_rows, with_features, with_sides, with_pair, with_pairs, prepared_over};
 
 use bodies::Problem;
-use drawing::points::{DrawnRows, PartRows, SampledRows, put_all_points};
+use drawing::points::put_all_points;
+pub use drawing::points::{DrawnRows, PartRows, SampledRows};
 use drawing::{is_own, is_sampled, side_chosen};
 use mechanism::check::check;
 use mechanism::pair::{ContactPair, PairGeometry, Surface};

@@ -8,7 +8,7 @@ pub invariant_of-placed : goal.invariant_of-placed
 invariant_of-placed c =
     let s = c.args in
     let r = has_room-from s.ps.now _ _ _ (sym c.room_from.ensures ∙ c.if-room_from.true) in
-    record { few = r.0; there = r.3 }
+    record { begun = c.part_starts.ensures; few = r.0; there = r.3 }
 
 pub draw_chosen-requires : goal.draw_chosen-requires
 draw_chosen-requires c =

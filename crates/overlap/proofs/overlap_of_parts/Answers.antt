@@ -17,7 +17,7 @@ invariant_of-s c =
     let n = counted-few s.args.m.now.parts s.requires.0 in
     let a = put-asks s.args.m.now.parts s.args.m.now.outlines (replicate 384 (replicate 8 zero_f)) 384 refl k k.1 c.put_segs.ensures in
     let x = a.0 in
-    record { few = s.requires.0; there = omega (arith, n, x) }
+    record { begun = c.part_starts.ensures; few = s.requires.0; there = omega (arith, n, x) }
 
 pub sunk_between-d-requires : goal.sunk_between-d-requires
 sunk_between-d-requires c =

@@ -12,7 +12,7 @@ invariant_of-s c =
     let few = (are_drawn ps c.args.p (sym c.pair_drawn.ensures ∙ c.if-pair_drawn.true)).0 in
     let k = counted-few ps few in
     let x = c.requires.0 in
-    record { few = few; there = omega (arith, k, x) }
+    record { begun = c.part_starts.ensures; few = few; there = omega (arith, k, x) }
 
 pub overlap_of_drawn-requires : goal.overlap_of_drawn-requires
 overlap_of_drawn-requires c =

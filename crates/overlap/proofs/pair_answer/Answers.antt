@@ -24,7 +24,7 @@ invariant_of-s c =
     let few = pair-few m s.q c.fits.ensures s.pair called c.in_ok-then_called.was in
     let k = counted-few s.m.now.parts few in
     let x = c.requires.0 in
-    record { few = few; there = omega (arith, k, x) }
+    record { begun = c.part_starts.ensures; few = few; there = omega (arith, k, x) }
 
 pub overlap_of_drawn-requires : goal.overlap_of_drawn-requires
 overlap_of_drawn-requires c =

@@ -14,7 +14,8 @@ pub returns : goal.returns
 returns c =
     let k = c.args.asked.now in
     let t = table_rows k.tables.now in
-    put-from t k.q c.args.i c.requires.1 c.pair_candidates_in-n.ensures k.bodies.now k.margin
+    let written = put-from t k.q c.args.i c.requires.1 c.pair_candidates_in-n.ensures k.bodies.now k.margin
     (ap (λ f. f.body) c.facts.ensures.0 ∙ ap (λ n. (side_at t n).body) c.row_a.ensures)
     (ap (λ f. f.body) c.facts-2.ensures.0 ∙ ap (λ n. (side_at t n).body) c.row_b.ensures)
-    c.requires.2.0 c.requires.2.1 c.requires.0 c.requires.2.2 c.put_shown.ensures.written
+    c.requires.2.0 c.requires.2.1 c.requires.0 c.requires.2.2 c.put_shown.ensures.written in
+    record { written = written; same = c.put_shown.ensures.same }

@@ -7,10 +7,11 @@ use Rattle.shown_rows.specs.Rows.{rows_of, grads_of, slips_of}
 use Rattle.shown_rows.proofs.AllPairs.{pairs_start, pairs-room, pairs_end}
 use Rattle.shown_rows.proofs.Bound.{bounds-part, rows-small}
 use Rattle.shown_rows.proofs.OfPair.{there-long, there-few, there-put, next-pair}
+use Rattle.pair_rows.proofs.Behind.{still_same, same_still}
 use Rattle.shown_rows.proofs.put_rows.Goals as goal
 
 pub loop-i-init : goal.loop-i-init
-loop-i-init c = (refl, pairs_start _ _ _ _ _ _ _)
+loop-i-init c = (refl, pairs_start _ _ _ _ _ _ _, same_still)
 
 pub offset_bounds-m-i : goal.offset_bounds-m-i
 offset_bounds-m-i c = let f = (accepted-few c.args.m c.requires.0).pairs.count in omega arith
@@ -35,8 +36,9 @@ loop-i-preserved c =
           (rows-small m c.requires.0 l.i (omega arith) l.invariant.1.upto)
           (pairs-room l.invariant.1 (mechanism_bound m) _ c.requires.1 (bounds-part m l.i (omega arith)) (omega arith))
           c.put_shown-at.ensures.written),
+      still_same l.invariant.2 c.put_shown-at.ensures.same,
     )
 
 pub returns : goal.returns
 unfolding rows_of grads_of slips_of
-returns c = pairs_end c.loop-i.invariant.1 (omega arith)
+returns c = record { written = pairs_end c.loop-i.invariant.1 (omega arith); same = c.loop-i.invariant.2 }

@@ -18,5 +18,5 @@ pub returns : goal.returns
 returns c =
     let s = c.args in
     let e = sym c.rows_checked.ensures ∙ c.in_ok-rows_checked.was in
-    let a = rows-over s.m.bodies.coords (rows_of s.m s.q s.margin) (grads_of s.m s.q s.margin) (slips_of s.m s.q s.margin) c.put_rows.ensures in
-    record { value = rw e (ap (λ k. Ok k) a.0); after = rw e a.1 }
+    let a = rows-over s.m.bodies.coords (rows_of s.m s.q s.margin) (grads_of s.m s.q s.margin) (slips_of s.m s.q s.margin) c.put_rows.ensures.written in
+    record { value = rw e (ap (λ k. Ok k) a.0); after = rw e a.1; same = c.put_rows.ensures.same }
