@@ -170,21 +170,19 @@ fn mechanism_of(bodies: Bodies) -> Mechanism {
 }
 
 // The pose of what was read.
-fn posed(s: &State) -> Result<Pose, Problem> {
+fn posed(s: State) -> Result<Pose, Problem> {
     let n = s.entries.min(16);
     mechanism_of(s.bodies).pose(&s.entry[..n])
 }
 
 // How fast a material point moves with a coordinate.
-fn column(s: &State, f: Fields) -> Result<Point, Problem> {
-    let m = mechanism_of(s.bodies);
-    let n = s.entries.min(16);
-    let q = m.pose(&s.entry[..n])?;
-    m.jacobian_column(q, material_point(f), f[3] as usize)
+fn column(s: State, f: Fields) -> Result<Point, Problem> {
+    let q = posed(s)?;
+    mechanism_of(s.bodies).jacobian_column(q, material_point(f), f[3] as usize)
 }
 
 // Where a material point is; of what has no pose there is none.
-fn place(s: &State, f: Fields) -> Result<Point, Problem> {
+fn place(s: State, f: Fields) -> Result<Point, Problem> {
     match posed(s) {
         Ok(q) => q.world(material_point(f)),
         Err(_) => Err(Problem::NoSuchThing),
@@ -228,9 +226,9 @@ fn print_pose<W: Write>(out: &mut W, a: Result<Pose, Problem>) -> io::Result<()>
 // What a line does to what was read, its answer printed where it asks.
 fn answer<W: Write>(out: &mut W, letter: u8, s: State, f: Fields) -> io::Result<State> {
     match letter {
-        b'Q' => print_pose(out, posed(&s))?,
-        b'C' => print_point(out, column(&s, f))?,
-        b'W' => print_point(out, place(&s, f))?,
+        b'Q' => print_pose(out, posed(s))?,
+        b'C' => print_point(out, column(s, f))?,
+        b'W' => print_point(out, place(s, f))?,
         _ => {}
     }
     Ok(match letter {

@@ -16,6 +16,7 @@ use mechanism::rows::{LentRows, RowArrays};
 use overlap::prepared::pair_overlap;
 use reading::prepared::read_in;
 use reading::{PairReading, Reading};
+use sheet::Sheet;
 use std::io;
 use std::io::{BufWriter, Write};
 use tables::Arrays;
@@ -86,26 +87,6 @@ fn with_pairs(h: u64, r: Reading) -> u64 {
 // What is lent for rows.
 type Rows = RowArrays<256, 4096>;
 
-// Reads the prepared description at the pose that the entries give.
-fn read_at(t: &Arrays, m: Mechanism, q: &[Lent], margin: f64) -> Result<(Reading, Rows), Problem> {
-    let mut rows = Rows::blank();
-    let mut lent = LentRows {
-        places: &mut rows.places,
-        values: &mut rows.values,
-        grad: &mut rows.grad,
-        slip: &mut rows.slip,
-    };
-    let r = read_in(
-        m.bodies,
-        &t.lent(m.parts.count),
-        m.pairs.count,
-        q,
-        margin,
-        &mut lent,
-    )?;
-    Ok((r, rows))
-}
-
 // The overlap of a pair of the prepared description.
 fn overlap_at(t: &Arrays, m: Mechanism, q: Pose, pair: usize) -> Result<f64, Problem> {
     pair_overlap(m.bodies, &t.lent(m.parts.count), m.pairs.count, q, pair)
@@ -143,36 +124,49 @@ fn larger(largest: Option<Mechanism>, m: Mechanism) -> Mechanism {
     }
 }
 
-// The reading of a description, its rows, and how many coordinates it has.
-#[derive(Drop)]
-struct Whole {
-    reading: Reading,
-    rows: Rows,
-    coords: usize,
-}
-
-// Prepares a text's description in arrays that were prepared for the largest one before it, which is then noted, and reads it.
-fn read_text(largest: &mut Option<Mechanism>, text: &[u8]) -> Result<Whole, Problem> {
-    let s = sheet::read(text)?;
+// Prepares a text's description in arrays that were prepared for the largest one before it, which is then noted, and reads it into the rows.
+fn read_sheet(
+    largest: &mut Option<Mechanism>,
+    s: Sheet,
+    rows: &mut Rows,
+) -> Result<Reading, Problem> {
     let m = s.mechanism;
     let mut t = Arrays::blank();
     t.prepare(largest.unwrap_or(m))?;
     t.prepare(m)?;
     *largest = Some(larger(*largest, m));
-    let lent = sheet::posed::lent(s.entries);
-    let q = &lent[..s.entries.count.min(16)];
+    let entries = sheet::posed::lent(s.entries);
+    let q = &entries[..s.entries.count.min(16)];
     let pose = m.bodies.pose(q)?;
-    let (r, rows) = read_at(&t, m, q, s.margin)?;
-    Ok(Whole {
-        reading: asked(r, &t, m, pose),
-        rows,
-        coords: m.bodies.coords,
-    })
+    let mut lent = LentRows {
+        places: &mut rows.places,
+        values: &mut rows.values,
+        grad: &mut rows.grad,
+        slip: &mut rows.slip,
+    };
+    let r = read_in(
+        m.bodies,
+        &t.lent(m.parts.count),
+        m.pairs.count,
+        q,
+        s.margin,
+        &mut lent,
+    )?;
+    Ok(asked(r, &t, m, pose))
+}
+
+// The arrays are made in a call of their own, so that a refused text does not pay for them.
+fn print_sheet<W: Write>(out: &mut W, largest: &mut Option<Mechanism>, s: Sheet) -> io::Result<()> {
+    let mut rows = Rows::blank();
+    match read_sheet(largest, s, &mut rows) {
+        Ok(r) => print_accepted(out, r, &rows, s.mechanism.bodies.coords),
+        Err(p) => writeln!(out, "{p}"),
+    }
 }
 
 fn answer<W: Write>(out: &mut W, largest: &mut Option<Mechanism>, text: &[u8]) -> io::Result<()> {
-    match read_text(largest, text) {
-        Ok(w) => print_accepted(out, w.reading, &w.rows, w.coords),
+    match sheet::read(text) {
+        Ok(s) => print_sheet(out, largest, s),
         Err(p) => writeln!(out, "{p}"),
     }
 }
