@@ -37,6 +37,7 @@ use Rattle.bodies.specs.declared.Problem.{Problem}
 use Rattle.bodies.specs.Check.{Checked}
 use Rattle.geometry.specs.declared.Dir.{Dir}
 use Rattle.mechanism.specs.declared.bearing.Bearing.{Bearing}
+use Rattle.bearings.specs.declared.Aim.{Aim}
 
 -- ---- the ends of a piece, and the faces that meet it
 -- a disc's two ends; a corner's are both computed from its centre
@@ -83,6 +84,9 @@ reach_of place corner toward f =
     let e = world_of place f.b in
     let run = sub_of (cond (same_point s corner) e s) corner in
     dot_of (sub_of toward corner) run ⊘ root_of (dot_of run run)
+
+abbrev pub score_of : Aim → Face → Float
+score_of k f = cond k.reaching (reach_of k.place k.corner k.toward f) (facing_of k.place k.toward f)
 
 abbrev pub later_of : (Face → Float) → Option Face → Face → Option Face
 later_of score None g = Some g

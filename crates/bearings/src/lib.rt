@@ -6,7 +6,7 @@ ghost use Rattle.std.specs.List.{list_any};
 ghost use Rattle.std.proofs.lemmas.List.Edits.{sets};
 ghost use Rattle.sides.specs.Features.{faces_in, discs_in};
 ghost use Rattle.governing.specs.Governing.{governing_in};
-ghost use Rattle.bearings.specs.Bearing.{at_end, meets_row, spot_of, ends_of, first_of, face_named, facing_of, reach_of, best_face};
+ghost use Rattle.bearings.specs.Bearing.{at_end, meets_row, spot_of, ends_of, first_of, face_named, facing_of, reach_of, score_of, best_face};
 ghost use Rattle.bearings.specs.Bearing.{run_of, alongside, slope_along, slope_of, slope_between, spans, is_level, is_flat};
 ghost use Rattle.bearings.specs.Bearing.{bears_as, stop_at, stop_under, toward_of, key_at, corner_bearing, edge_on, edge_bearing, bearing_of, governed_bearing, row_at};
 
@@ -122,6 +122,27 @@ fn reach(place: Placement, corner: Point, toward: Point, f: Face) -> f64
     let run = sub(far, corner);
     let way = sub(toward, corner);
     dot(way, run) / root(dot(run, run))
+}
+
+// What faces are scored by: how far they run from a corner toward a point, or how they face along a direction.
+#[derive(Clone, Copy)]
+pub struct Aim {
+    pub reaching: bool,
+    pub place: Placement,
+    pub corner: Point,
+    pub toward: Point,
+}
+
+impl Aim {
+    // The score of a face.
+    pub fn score(self, f: Face) -> f64
+        ensures { result ≡ score_of self f }
+    {
+        if self.reaching {
+            return reach(self.place, self.corner, self.toward, f);
+        }
+        facing(self.place, self.toward, f)
+    }
 }
 
 // Of the faces that meet one of the ends the last with the highest score.
